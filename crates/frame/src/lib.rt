@@ -1,0 +1,18 @@
+//! Frames of a narrowband power-line modem, CENELEC A, 36 carriers: what a header may say, and
+//! how much payload it then carries.
+mod headers;
+mod lengths;
+mod modulations;
+mod refusals;
+mod sizes;
+
+pub use headers::Header;
+pub use headers::HeaderDebug;
+pub use headers::HeaderPartialEq;
+pub use lengths::LegalLength;
+pub use lengths::largest;
+pub use lengths::smallest;
+pub use modulations::Modulation;
+pub use refusals::Field;
+pub use refusals::Refusal;
+pub use sizes::size;
