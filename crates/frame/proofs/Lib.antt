@@ -1,2 +1,4 @@
 pub mod Extremes
+pub mod FirstRefusal
 pub mod Legality
+pub mod SoundSizes

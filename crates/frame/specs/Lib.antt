@@ -1,5 +1,7 @@
 pub mod Answers
+pub mod Examples
 pub mod Headers
+pub mod Laws
 pub mod Lengths
 pub mod Modulations
 pub mod Refusals
