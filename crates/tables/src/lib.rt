@@ -4,3 +4,6 @@ mod lines;
 
 pub use lines::certificate_line;
 pub use lines::tone_map_line;
+
+#[cfg(test)]
+mod tests;
