@@ -4,8 +4,7 @@ ghost use mathlib.Core.List.{_++_};
 ghost use mathlib.Core.Path.{_≡_};
 ghost use Rattle.std.specs.Of.String.{string-bytes};
 ghost use Rattle.std.specs.Vec.{made};
-ghost use Rattle.std.specs.Written.{decimal};
-ghost use Rattle.tables.specs.Columns.{column, length-columns};
+ghost use Rattle.tables.specs.Columns.{with-length, with-number, with-text};
 use frame::LegalLength;
 use std::alloc::AllocError;
 use std::alloc::Global;
@@ -25,7 +24,7 @@ fn push_blanks(line: &mut String, count: usize) -> Result<(), AllocError>
 
 /// Appends a column with this text at its right end.
 fn push_text(line: &mut String, text: &str) -> Result<(), AllocError>
-    ensures { λ r. ⌜ made r (λ _. string-bytes (now (line .exit)) ≡ string-bytes (now (line .entry)) ++ column (now (text .entry))) ⌝ }
+    ensures { λ r. ⌜ made r (λ _. string-bytes (now (line .exit)) ≡ with-text (string-bytes (now (line .entry))) (now (text .entry))) ⌝ }
 {
     push_blanks(line, COLUMN.saturating_sub(text.len()))?;
     line.push_str(text)?;
@@ -34,7 +33,7 @@ fn push_text(line: &mut String, text: &str) -> Result<(), AllocError>
 
 /// Appends a column with this number at its right end.
 pub fn push_number(heap: Global, line: &mut String, number: usize) -> Result<(), AllocError>
-    ensures { λ r. ⌜ made r (λ _. string-bytes (now (line .exit)) ≡ string-bytes (now (line .entry)) ++ column (decimal number)) ⌝ }
+    ensures { λ r. ⌜ made r (λ _. string-bytes (now (line .exit)) ≡ with-number (string-bytes (now (line .entry))) number) ⌝ }
 {
     let text = number.to_string(heap)?;
     push_text(line, text.as_str())
@@ -46,7 +45,7 @@ pub fn push_length(
     line: &mut String,
     length: Option<LegalLength>,
 ) -> Result<(), AllocError>
-    ensures { λ r. ⌜ made r (λ _. string-bytes (now (line .exit)) ≡ string-bytes (now (line .entry)) ++ length-columns length) ⌝ }
+    ensures { λ r. ⌜ made r (λ _. string-bytes (now (line .exit)) ≡ with-length (string-bytes (now (line .entry))) length) ⌝ }
 {
     match length {
         Some(LegalLength { fl, payload }) => {

@@ -1,7 +1,7 @@
 //! The lines of the certificate and of the list of tone maps.
 ghost use Rattle.std.specs.Of.String.{string-bytes};
 ghost use Rattle.std.specs.Vec.{made};
-ghost use Rattle.tables.specs.Lines.{Adds-lengths, Certificate-line, Tone-map-line};
+ghost use Rattle.tables.specs.Lines.{With-lengths, Certificate-line, Tone-map-line};
 use crate::columns::push_length;
 use crate::columns::push_number;
 use frame::Header;
@@ -12,7 +12,7 @@ use std::alloc::Global;
 
 /// Appends MOD, the smallest legal FL and its N, the largest legal FL and its N.
 fn push_lengths(heap: Global, line: &mut String, tm: u32, modulation: u32) -> Result<(), AllocError>
-    ensures { λ r. ⌜ made r (λ _. Adds-lengths tm modulation (string-bytes (now (line .entry))) (string-bytes (now (line .exit)))) ⌝ }
+    ensures { λ r. ⌜ made r (λ _. With-lengths tm modulation (string-bytes (now (line .entry))) (string-bytes (now (line .exit)))) ⌝ }
 {
     let header = Header {
         pdc: 0,
@@ -34,9 +34,9 @@ fn push_lengths(heap: Global, line: &mut String, tm: u32, modulation: u32) -> Re
 pub fn certificate_line(heap: Global, tm: u32, modulation: u32) -> Result<String, AllocError>
     ensures { λ r. ⌜ made r (λ s. Certificate-line tm modulation (string-bytes s)) ⌝ }
 {
-    let mut line = String::new(heap);
-    push_lengths(heap, &mut line, tm, modulation)?;
-    Ok(line)
+    let mut columns = String::new(heap);
+    push_lengths(heap, &mut columns, tm, modulation)?;
+    Ok(columns)
 }
 
 /// The same line with the tone map's number in a column in front.

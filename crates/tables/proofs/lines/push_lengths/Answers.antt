@@ -1,5 +1,4 @@
 use borrow.Author.Needs.{needs}
-use mathlib.Core.List.{append-assoc}
 use Rattle.tables.proofs.lines.push_lengths.Needs as need
 
 pub returns : need.returns
@@ -9,5 +8,5 @@ returns c =
       longest = c .largest .result;
       is-smallest = c .smallest .ensures;
       is-largest = c .largest .ensures;
-      text = search (needs, append-assoc);
+      text = search needs;
     }
