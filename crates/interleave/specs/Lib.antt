@@ -1,0 +1,4 @@
+-- The interleaver.
+pub mod Factors
+pub mod Places
+pub mod Interleavings
