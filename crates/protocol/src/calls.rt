@@ -1,35 +1,24 @@
-//! The calls that a line can ask for.
+//! Numbers and headers among the words of a line.
 ghost use mathlib.Core.Path.{_≡_};
-ghost use Rattle.protocol.specs.Calls.{line-of, read-call, read-header, read-number};
+ghost use Rattle.protocol.specs.Calls.{read-header, read-number, skipped};
 ghost use Rattle.protocol.specs.Words.{Reads, unread};
 ghost use Rattle.std.specs.shelf.Text.{sameBytes};
 use crate::numbers::number_of;
 use crate::words::Words;
 use frame::Header;
 
-/// A call on the library.
-#[derive(Clone, Copy)]
-pub enum Call {
-    /// `size HEADER`: the payload's length and the row count.
-    Size(Header),
-}
-
-/// What a line is.
-#[derive(Clone, Copy)]
-pub enum Line {
-    /// Empty, or a remark: it gets no answer.
-    Skipped,
-    /// No call.
-    Unreadable,
-    /// A call.
-    Asks(Call),
-}
-
 /// Whether a word is this one.
-fn same_word(word: &[u8], name: &[u8]) -> bool
+pub fn same_word(word: &[u8], name: &[u8]) -> bool
     ensures { λ r. ⌜ r ≡ sameBytes (now (word .entry)) (now (name .entry)) ⌝ }
 {
     word == name
+}
+
+/// Whether a line, without its end, is empty or a remark, which gets no answer.
+pub fn is_skipped(line: &[u8]) -> bool
+    ensures { λ r. ⌜ r ≡ skipped (now (line .entry)) ⌝ }
+{
+    line.is_empty() || line[0] == b'#'
 }
 
 impl Words<'_> {
@@ -58,35 +47,5 @@ impl Words<'_> {
             tm,
             dt,
         })
-    }
-
-    /// The next words as a call.
-    fn call(&mut self) -> Option<Call>
-        ensures { λ r. ⌜ Reads read-call (unread (now (self .entry))) r (unread (now (self .exit))) ⌝ }
-    {
-        let name = self.next_word()?;
-        if same_word(name, b"size") {
-            let header = self.header()?;
-            Some(Call::Size(header))
-        } else {
-            None
-        }
-    }
-}
-
-/// What a line, given without its end, asks for.
-pub fn read_line(line: &[u8]) -> Line
-    ensures { λ r. ⌜ r ≡ line-of (now (line .entry)) ⌝ }
-{
-    if line.is_empty() || line[0] == b'#' {
-        return Line::Skipped;
-    }
-    let mut words = Words::new(line);
-    let Some(call) = words.call() else {
-        return Line::Unreadable;
-    };
-    match words.next_word() {
-        Some(_) => Line::Unreadable,
-        None => Line::Asks(call),
     }
 }

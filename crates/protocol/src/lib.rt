@@ -1,9 +1,11 @@
 //! The text protocol of the type-test room: one line of text for each call, one for its answer.
-mod answers;
 mod calls;
+mod hexes;
 mod numbers;
+mod replies;
+mod requests;
+mod stages;
+mod texts;
 mod words;
 
-pub use answers::Answer;
-pub use answers::AnswerDisplay;
-pub use answers::reply;
+pub use replies::reply;
