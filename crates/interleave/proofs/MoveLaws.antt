@@ -144,7 +144,7 @@ goes-one-to-one m n b some many =
     in-blocks : (t : ℕ) → t < m * n * b → t / (m * n) < b
     in-blocks t l = div-below t (m * n) b whole (subst (λ x. t < x) (mul-comm (m * n) b) l)
 
-sizes-known : (m n b : ℕ) → known-sizes m n b ≡ true → ((0 < m) × (m ≤ 36)) × (((0 < n) × (n ≤ 252)) × (b ≤ 3))
+pub sizes-known : (m n b : ℕ) → known-sizes m n b ≡ true → ((0 < m) × (m ≤ 36)) × (((0 < n) × (n ≤ 252)) × (b ≤ 3))
 sizes-known m n b h =
     let parts = and-parts ((leb 6 m && leb m 36) && eqb (m % 6) 0) ((leb 1 n && leb n 252) && (leb 1 b && leb b 3)) h in
     let row = and-parts (leb 6 m) (leb m 36) (and-parts (leb 6 m && leb m 36) (eqb (m % 6) 0) (parts .0) .0) in

@@ -8,8 +8,16 @@ use lib.ListN.{getD}
 use Rattle.std.specs.Iters.{counting}
 use Rattle.std.specs.declared.option.Option.{Option}
 use Rattle.std.specs.declared.option.Option.the-variants.{Some, None}
+use Rattle.std.specs.declared.result.Result.{Result}
+use Rattle.std.specs.declared.result.Result.the-variants.{Ok, Err}
+use Rattle.stage.specs.declared.faults.Refusal.{Refusal}
+use Rattle.stage.specs.declared.faults.Refusal.the-variants.{Setting}
+use Rattle.stage.specs.declared.faults.StageFault.{StageFault}
+use Rattle.stage.specs.declared.faults.ChainFault.{ChainFault}
+use Rattle.stage.specs.Faults.{fault-at}
+use Rattle.stage.specs.Calls.{Leaves}
 use Rattle.stage.specs.Plain.{Plain}
-use Rattle.stage.specs.Model.{plain}
+use Rattle.stage.specs.Model.{Model, plain}
 use Rattle.stage.specs.Promise.{Promise}
 use Rattle.interleave.specs.Places.{place}
 
@@ -58,6 +66,29 @@ moving count f =
 -- The interleaver of b blocks of n rows of m bits.
 abbrev pub interleaving : ℕ → ℕ → ℕ → Plain
 interleaving m n b = moving (m * n * b) (goes-to m n)
+
+-- The stage that three sizes make, or the refusal of sizes that are not known.
+abbrev pub made-interleave : ℕ → ℕ → ℕ → Result Model Refusal
+made-interleave m n b = cond (known-sizes m n b) (Ok (plain (interleaving m n b))) (Err Setting)
+
+-- The first `count` of n elements are bits; the next of them, if there is one, is not.
+pub record Leading (n : ℕ) (buffer : List ℕ) (count : ℕ) : Type 0 where
+  pub few : count ≤ n
+  pub bits : (k : ℕ) → k < count → getD buffer k 0 ≤ 1
+  pub stop : count < n → 1 < getD buffer count 0
+
+-- The elements of a buffer at the places to which n bits go, in the order of the bits.
+abbrev pub gathered : (ℕ → ℕ) → ℕ → List ℕ → List ℕ
+gathered f n buffer = map (λ q. getD buffer (f q) 0) (counting 0 n)
+
+-- An answer with a stage's fault as one with that of a chain in which the stage is next to the line.
+abbrev pub at-the-line : Result ℕ StageFault → Result ℕ ChainFault
+at-the-line (Ok n) = Ok n
+at-the-line (Err f) = Err (fault-at (f .number) (f .place))
+
+-- What an in-place decoding with a stage's own fault leaves: the list in front, or the fault.
+abbrev pub Takes : Result (List ℕ) ChainFault → Result ℕ StageFault → List ℕ → Type 0
+Takes decoded answer buffer = Leaves decoded (at-the-line answer) buffer
 
 -- With every known setting the interleaver keeps the promise of stages.
 abbrev pub KeepsThePromise : Type 0

@@ -1,4 +1,6 @@
 -- The interleaver.
 pub mod Factors
 pub mod Places
+pub mod Walks
 pub mod Interleavings
+pub mod Meanings
