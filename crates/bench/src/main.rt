@@ -1,5 +1,7 @@
 //! The type-test room's program: reads calls from standard input, one to a line, and writes an
 //! answer line for each.
+#![tactic(auto)]
+
 use protocol::reply;
 use std::io;
 use std::io::{BufRead, BufReader, BufWriter, Write};

@@ -1,5 +1,7 @@
 //! Prints the certificate's table: for the tone map with all six sub-bands, one line for each
 //! modulation.
+#![tactic(auto)]
+
 use std::io;
 use tables::certificate_line;
 

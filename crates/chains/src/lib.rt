@@ -1,4 +1,5 @@
 //! The two chains of the frame coder, from a header's bits and a payload's bytes to cells.
+#![tactic(auto)]
 
 mod calls;
 mod choices;

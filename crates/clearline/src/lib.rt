@@ -1,4 +1,6 @@
 //! A frame over a line that damages nothing: what is sent arrives.
+#![tactic(auto)]
+
 ghost use Rattle.std.specs.Prelude.{◌≡◌, ℕ, ◌*◌, ◌≤◌, length};
 ghost use Rattle.clearline.specs.Deliveries.{Delivers};
 ghost use Rattle.receiving.specs.Laws.{fed_all};

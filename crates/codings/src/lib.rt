@@ -1,4 +1,5 @@
 //! Codings of bits and bytes, each a plain stage: check, scramble, unpack bits, fill and repeat.
+#![tactic(auto)]
 
 #[cfg(test)]
 mod check_tests;

@@ -1,4 +1,5 @@
 //! The convolutional code, a plain stage.
+#![tactic(auto)]
 
 pub mod convolutions;
 #[cfg(test)]

@@ -1,4 +1,6 @@
 //! All worked examples of sizes, refusals, packed headers and codings, as one fact.
+#![tactic(auto)]
+
 ghost use Rattle.examples.specs.Examples.{Examples};
 
 use codings::scramble_example;

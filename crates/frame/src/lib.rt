@@ -1,5 +1,7 @@
 //! Frames of a narrowband power-line modem, CENELEC A, 36 carriers: what a header may say, and
 //! how much payload it then carries.
+#![tactic(auto)]
+
 mod headers;
 mod laws;
 mod lengths;

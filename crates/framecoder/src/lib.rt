@@ -6,6 +6,7 @@
 //! In C a number is a `size_t`, and a list is a pointer to its elements and then its length. What no
 //! call can test is left to the caller: each pointer leads to as many bytes as the length says, and
 //! the two buffers share no byte with each other or with a list that is handed in.
+#![tactic(auto)]
 
 pub mod answers;
 mod calls;

@@ -1,4 +1,5 @@
 //! The interleaver: the bits of a block, put to other places.
+#![tactic(auto)]
 
 mod blocks;
 pub mod interleavers;

@@ -2,6 +2,7 @@
 //!
 //! The program codes a list, decodes it again, and shows what the chain says of damaged lists
 //! and of lists that it does not take.
+#![tactic(auto)]
 
 pub mod complement;
 pub mod line;

@@ -1,5 +1,7 @@
 //! Sends a meter's reading over a line that damages nothing, shows some of its rows, receives it, and
 //! then shows what the receiver says when one cell is damaged.
+#![tactic(auto)]
+
 pub mod script;
 
 use clearline::deliver;

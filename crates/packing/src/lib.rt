@@ -1,4 +1,5 @@
 //! A header's bits, and the five bytes that a header packs to.
+#![tactic(auto)]
 
 pub mod bits;
 pub mod laws;

@@ -2,6 +2,7 @@
 //!
 //! A cell is a phase in eighths of a turn, 0 to 7. [`Map`] makes a phase increment of each 1, 2 or
 //! 3 bits, and [`Difference`] adds each increment to the cell that was put out a row earlier.
+#![tactic(auto)]
 
 pub mod differences;
 pub mod maps;

@@ -1,4 +1,6 @@
 //! The text protocol of the type-test room: one line of text for each call, one for its answer.
+#![tactic(auto)]
+
 mod calls;
 mod hexes;
 mod numbers;

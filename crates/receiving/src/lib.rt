@@ -2,6 +2,7 @@
 //!
 //! A [`Receiver`] is started under a reference, fed one row at a time, and has its frame taken. A
 //! [`Recording`] hands out the rows of lent cells.
+#![tactic(auto)]
 
 mod buffers;
 mod decisions;

@@ -1,4 +1,5 @@
 //! Reed-Solomon parity over the field of 256 bytes.
+#![tactic(auto)]
 
 pub mod codes;
 #[cfg(test)]

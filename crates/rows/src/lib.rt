@@ -1,4 +1,5 @@
 //! Rows of cells: which carriers are live, and which rows can be fed.
+#![tactic(auto)]
 
 pub mod carriers;
 pub mod gathering;

@@ -1,4 +1,5 @@
 //! Sending a frame: begin writes the header's rows, finish the payload's.
+#![tactic(auto)]
 
 pub mod begun;
 mod header_rows;

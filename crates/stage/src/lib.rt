@@ -4,6 +4,7 @@
 //! A stage is anything that implements [`Stage`]. Its two calls, `code` and `decode`, take
 //! a list and two lent buffers and refuse by a [`Refusal`]. A [`Pile`] of two stages is a
 //! stage again, so a chain of any length is an expression of piles.
+#![tactic(auto)]
 
 pub mod buffers;
 pub mod faults;

@@ -1,4 +1,6 @@
 //! The certificate's tables as text, a line for each modulation of a tone map.
+#![tactic(auto)]
+
 mod columns;
 mod lines;
 

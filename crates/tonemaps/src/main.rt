@@ -1,5 +1,7 @@
 //! Prints, for each of the 63 legal tone maps and each modulation, the certificate's line with the
 //! tone map's number in front.
+#![tactic(auto)]
+
 use std::io;
 use std::io::{BufWriter, Write};
 use tables::tone_map_line;
