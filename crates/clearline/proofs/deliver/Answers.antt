@@ -18,12 +18,12 @@ returns-in-Ok-take c = λ rows s room.
     c.take.new.out
     c.in-Ok.rows
     rows
-    (view c.feed-rows.new.receiver)
+    (view c.feed_rows.new.receiver)
     c.take.result
     s
     c.in-Ok.ensures.answer
     c.in-Ok.ensures.law
-    (c.feed-rows.ensures ∙ ap (λ v. fed_all v (rows_in c.in-Ok.rows c.send.new.cells)) (c.start.ensures.after ∙ ap (λ v. started v c.args.reference.now) c.new-receiver.ensures))
+    (c.feed_rows.ensures ∙ ap (λ v. fed_all v (rows_in c.in-Ok.rows c.send.new.cells)) (c.start.ensures.after ∙ ap (λ v. started v c.args.reference.now) c.new-receiver.ensures))
     c.take.ensures.value
     c.take.ensures.buffer
     room in
@@ -41,12 +41,12 @@ returns-in-Err c = λ rows s room.
     c.take.new.out
     c.in-Ok.rows
     rows
-    (view c.feed-rows.new.receiver)
+    (view c.feed_rows.new.receiver)
     c.take.result
     s
     c.in-Ok.ensures.answer
     c.in-Ok.ensures.law
-    (c.feed-rows.ensures ∙ ap (λ v. fed_all v (rows_in c.in-Ok.rows c.send.new.cells)) (c.start.ensures.after ∙ ap (λ v. started v c.args.reference.now) c.new-receiver.ensures))
+    (c.feed_rows.ensures ∙ ap (λ v. fed_all v (rows_in c.in-Ok.rows c.send.new.cells)) (c.start.ensures.after ∙ ap (λ v. started v c.args.reference.now) c.new-receiver.ensures))
     c.take.ensures.value
     c.take.ensures.buffer
     room in

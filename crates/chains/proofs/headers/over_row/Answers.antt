@@ -3,4 +3,4 @@ use Rattle.chains.proofs.MadeChains.{header_made}
 use Rattle.chains.proofs.headers.over_row.Goals as goal
 
 pub returns : goal.returns
-returns c = c.piled-over.ensures ∙ header_made c.args.reference.now c.requires
+returns c = c.piled_over.ensures ∙ header_made c.args.reference.now c.requires

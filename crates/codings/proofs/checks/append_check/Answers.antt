@@ -6,8 +6,8 @@ returns c =
     check_written
     c.args.n
     c.args.buffer.now
-    c.copy-from-slice.new.self
-    c.check-of-check.result
+    c.copy_from_slice.new.self
+    c.check_of-check.result
     (room_for_check c.args.n c.args.buffer.now c.requires.front c.requires.list c.requires.room)
-    c.copy-from-slice.ensures.after
-    c.check-of-check.ensures
+    c.copy_from_slice.ensures.after
+    c.check_of-check.ensures

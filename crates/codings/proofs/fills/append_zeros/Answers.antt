@@ -9,9 +9,9 @@ returns c =
     c.args.total
     c.args.n
     c.args.buffer.now
-    c.put-run.new.buffer
+    c.put_run.new.buffer
     room.0
     (fillable_is c.args.bits c.args.total c.requires.range).0
     room.1
-    c.put-run.auto.buffer
-    c.put-run.ensures
+    c.put_run.auto.buffer
+    c.put_run.ensures

@@ -3,17 +3,17 @@ use Rattle.codings.specs.GroupLaws.{group_inside}
 use Rattle.codings.proofs.RepeatSteps.{Copies, copies_next, copies_end, copies_agree}
 use Rattle.codings.proofs.repeats.agreeing.Goals as goal
 
-pub head-run-same-requires : goal.head-run-same-requires
-head-run-same-requires c =
+pub head_run-same-requires : goal.head_run-same-requires
+head_run-same-requires c =
     record { positive = c.requires.positive; room = omega (arith, group_inside c.loop-i.i c.args.count c.args.times (omega arith)) }
 
 pub returns-then-same-times : goal.returns-then-same-times
 returns-then-same-times c =
-    copies_end c.args.times c.args.count c.loop-i.i c.head-run-same.result c.args.buffer.now (omega arith) (omega arith) (omega arith) c.loop-i.invariant c.head-run-same.ensures (omega arith)
+    copies_end c.args.times c.args.count c.loop-i.i c.head_run-same.result c.args.buffer.now (omega arith) (omega arith) (omega arith) c.loop-i.invariant c.head_run-same.ensures (omega arith)
 
 pub loop-i-preserved : goal.loop-i-preserved
 loop-i-preserved c =
-    copies_next c.args.times c.loop-i.i c.head-run-same.result c.args.buffer.now (omega arith) c.loop-i.invariant c.head-run-same.ensures (omega arith)
+    copies_next c.args.times c.loop-i.i c.head_run-same.result c.args.buffer.now (omega arith) c.loop-i.invariant c.head_run-same.ensures (omega arith)
 
 pub returns : goal.returns
 returns c =

@@ -19,5 +19,5 @@ returns-then-place-n c =
 pub returns : goal.returns
 returns c =
     let e = sym c.in-Some.ensures in
-    let decoded = taken_back c.args.times c.args.n c.in-Some.count c.agreeing-place.result c.args.buffer.now c.keep-heads.new.buffer c.requires.known e c.requires.front c.agreeing-place.ensures (omega arith) c.keep-heads.ensures in
-    (decoded, omega (arith, fewer_than_copies c.args.times c.args.n c.in-Some.count c.requires.known e, c.keep-heads.auto.buffer, c.requires.front))
+    let decoded = taken_back c.args.times c.args.n c.in-Some.count c.agreeing-place.result c.args.buffer.now c.keep_heads.new.buffer c.requires.known e c.requires.front c.agreeing-place.ensures (omega arith) c.keep_heads.ensures in
+    (decoded, omega (arith, fewer_than_copies c.args.times c.args.n c.in-Some.count c.requires.known e, c.keep_heads.auto.buffer, c.requires.front))

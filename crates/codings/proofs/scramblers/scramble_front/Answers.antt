@@ -5,9 +5,9 @@ use Rattle.codings.proofs.scramblers.scramble_front.Goals as goal
 
 pub loop-i-preserved : goal.loop-i-preserved
 loop-i-preserved c =
-    let e = window_moved c.loop-i.i c.loop-i.window c.next-byte-window.result c.loop-i.invariant.0 c.next-byte-window.ensures in (
-      window_again c.loop-i.i c.next-byte-window.result e,
-      mixed_more c.args.buffer.now c.loop-i.buffer c.loop-i.i c.next-byte-window.result (omega (arith, c.requires, c.loop-i.auto.buffer)) e c.loop-i.invariant.1,
+    let e = window_moved c.loop-i.i c.loop-i.window c.next_byte-window.result c.loop-i.invariant.0 c.next_byte-window.ensures in (
+      window_again c.loop-i.i c.next_byte-window.result e,
+      mixed_more c.args.buffer.now c.loop-i.buffer c.loop-i.i c.next_byte-window.result (omega (arith, c.requires, c.loop-i.auto.buffer)) e c.loop-i.invariant.1,
     )
 
 pub returns : goal.returns

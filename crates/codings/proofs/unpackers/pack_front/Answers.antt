@@ -11,9 +11,9 @@ loop-i-preserved c =
     c.args.buffer.now
     c.loop-i.buffer
     c.loop-i.i
-    c.byte-from-bits.result
+    c.byte_from_bits.result
     (omega (arith, c.requires.room, c.loop-i.auto.buffer))
-    (c.byte-from-bits.ensures ∙ byte_stays c.args.buffer.now c.loop-i.buffer c.loop-i.i c.loop-i.invariant)
+    (c.byte_from_bits.ensures ∙ byte_stays c.args.buffer.now c.loop-i.buffer c.loop-i.i c.loop-i.invariant)
     c.loop-i.invariant
 
 pub returns : goal.returns

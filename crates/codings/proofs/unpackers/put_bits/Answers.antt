@@ -9,4 +9,4 @@ loop-k-init c = paste_none c.args.buffer.now c.args.at (eight_bits c.args.byte)
 
 pub loop-k-preserved : goal.loop-k-preserved
 loop-k-preserved c =
-    bits_more c.args.byte c.args.at c.loop-k.k c.bit-from-top.result c.args.buffer.now c.loop-k.buffer (omega arith) (omega arith) c.bit-from-top.ensures c.loop-k.invariant
+    bits_more c.args.byte c.args.at c.loop-k.k c.bit_from_top.result c.args.buffer.now c.loop-k.buffer (omega arith) (omega arith) c.bit_from_top.ensures c.loop-k.invariant

@@ -7,8 +7,8 @@ use Rattle.convolution.specs.Convolutions.{convolution}
 use Rattle.convolution.proofs.LoopLaws.{pairs_room, list_in_room, bit_in_hand, register_fits, put_more, put_all}
 use Rattle.convolution.proofs.convolutions.put_pairs.Goals as goal
 
-pub word-of-word-requires : goal.word-of-word-requires
-word-of-word-requires c =
+pub word_of-word-requires : goal.word_of-word-requires
+word_of-word-requires c =
     let w = legal_within (plain convolution) (take c.args.n c.args.bits.now) c.requires.list in
     let hand = bit_in_hand c.args.n c.args.bits.now c.loop-i.i (list_in_room c.args.n _ c.requires.from) c.requires.zeros (omega arith) in
     record {
@@ -22,7 +22,7 @@ bounds-buffer-i c =
 
 pub bounds-buffer-i-in-loop-i : goal.bounds-buffer-i-in-loop-i
 bounds-buffer-i-in-loop-i c =
-    omega (arith, pairs_room c.args.n _ c.args.bits.now c.requires.list (list_in_room c.args.n _ c.requires.from) c.requires.to, c.loop-i.auto.buffer, length-set c.loop-i.buffer (2 * c.loop-i.i) c.x-of.result)
+    omega (arith, pairs_room c.args.n _ c.args.bits.now c.requires.list (list_in_room c.args.n _ c.requires.from) c.requires.to, c.loop-i.auto.buffer, length-set c.loop-i.buffer (2 * c.loop-i.i) c.x_of.result)
 
 pub loop-i-preserved : goal.loop-i-preserved
 loop-i-preserved c =
@@ -32,15 +32,15 @@ loop-i-preserved c =
     c.loop-i.i
     c.loop-i.register
     _
-    c.word-of-word.result
-    c.x-of.result
-    c.y-of.result
+    c.word_of-word.result
+    c.x_of.result
+    c.y_of.result
     (legal_within (plain convolution) (take c.args.n c.args.bits.now) c.requires.list)
     (omega (arith, pairs_room c.args.n _ c.args.bits.now c.requires.list (list_in_room c.args.n _ c.requires.from) c.requires.to, c.loop-i.auto.buffer))
     (bit_in_hand c.args.n c.args.bits.now c.loop-i.i (list_in_room c.args.n _ c.requires.from) c.requires.zeros (omega arith))
-    c.word-of-word.ensures
-    c.x-of.ensures
-    c.y-of.ensures
+    c.word_of-word.ensures
+    c.x_of.ensures
+    c.y_of.ensures
     c.loop-i.invariant
 
 pub returns : goal.returns

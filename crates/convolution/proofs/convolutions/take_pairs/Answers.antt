@@ -2,14 +2,14 @@ use Rattle.std.proofs.Common.{arith}
 use Rattle.convolution.proofs.LoopLaws.{register_small, regained_small, fitting_is, stop_at_x, stop_at_y, take_one, take_all_pairs}
 use Rattle.convolution.proofs.convolutions.take_pairs.Goals as goal
 
-pub bit-at-bit-requires : goal.bit-at-bit-requires
-bit-at-bit-requires c = register_small c.args.count c.args.buffer.now c.loop-i.i c.loop-i.register c.loop-i.invariant.held
+pub bit_at-bit-requires : goal.bit_at-bit-requires
+bit_at-bit-requires c = register_small c.args.count c.args.buffer.now c.loop-i.i c.loop-i.register c.loop-i.invariant.held
 
-pub word-of-word-requires : goal.word-of-word-requires
-word-of-word-requires c =
+pub word_of-word-requires : goal.word_of-word-requires
+word_of-word-requires c =
     record {
       six = register_small c.args.count c.args.buffer.now c.loop-i.i c.loop-i.register c.loop-i.invariant.held;
-      bit = regained_small c.args.count c.args.buffer.now c.loop-i.i c.bit-at-bit.result (fitting_is c.args.count c.args.buffer.now c.loop-i.i c.loop-i.register _ c.bit-at-bit.result (omega arith) c.loop-i.invariant.held (c.loop-i.invariant.rest _ (omega arith)) c.bit-at-bit.ensures);
+      bit = regained_small c.args.count c.args.buffer.now c.loop-i.i c.bit_at-bit.result (fitting_is c.args.count c.args.buffer.now c.loop-i.i c.loop-i.register _ c.bit_at-bit.result (omega arith) c.loop-i.invariant.held (c.loop-i.invariant.rest _ (omega arith)) c.bit_at-bit.ensures);
     }
 
 pub returns-then-buffer-i : goal.returns-then-buffer-i
@@ -21,14 +21,14 @@ returns-then-buffer-i c =
     c.loop-i.buffer
     c.loop-i.i
     c.loop-i.register
-    c.bit-at-bit.result
-    c.word-of-word.result
-    c.x-of.result
+    c.bit_at-bit.result
+    c.word_of-word.result
+    c.x_of.result
     c.requires
     (omega arith)
-    (fitting_is c.args.count c.args.buffer.now c.loop-i.i c.loop-i.register _ c.bit-at-bit.result (omega arith) c.loop-i.invariant.held (c.loop-i.invariant.rest _ (omega arith)) c.bit-at-bit.ensures)
-    c.word-of-word.ensures
-    c.x-of.ensures
+    (fitting_is c.args.count c.args.buffer.now c.loop-i.i c.loop-i.register _ c.bit_at-bit.result (omega arith) c.loop-i.invariant.held (c.loop-i.invariant.rest _ (omega arith)) c.bit_at-bit.ensures)
+    c.word_of-word.ensures
+    c.x_of.ensures
     c.if-buffer-i.true
     c.loop-i.invariant
 
@@ -41,17 +41,17 @@ returns-then-buffer-i-2 c =
     c.loop-i.buffer
     c.loop-i.i
     c.loop-i.register
-    c.bit-at-bit.result
-    c.word-of-word.result
-    c.x-of.result
-    c.y-of.result
+    c.bit_at-bit.result
+    c.word_of-word.result
+    c.x_of.result
+    c.y_of.result
     c.requires
     (omega arith)
-    (fitting_is c.args.count c.args.buffer.now c.loop-i.i c.loop-i.register _ c.bit-at-bit.result (omega arith) c.loop-i.invariant.held (c.loop-i.invariant.rest _ (omega arith)) c.bit-at-bit.ensures)
-    c.word-of-word.ensures
-    c.x-of.ensures
+    (fitting_is c.args.count c.args.buffer.now c.loop-i.i c.loop-i.register _ c.bit_at-bit.result (omega arith) c.loop-i.invariant.held (c.loop-i.invariant.rest _ (omega arith)) c.bit_at-bit.ensures)
+    c.word_of-word.ensures
+    c.x_of.ensures
     c.if-buffer-i.false
-    c.y-of.ensures
+    c.y_of.ensures
     c.if-buffer-i-2.true
     c.loop-i.invariant
 
@@ -63,16 +63,16 @@ loop-i-preserved c =
     c.loop-i.buffer
     c.loop-i.i
     c.loop-i.register
-    c.bit-at-bit.result
-    c.word-of-word.result
-    c.x-of.result
-    c.y-of.result
+    c.bit_at-bit.result
+    c.word_of-word.result
+    c.x_of.result
+    c.y_of.result
     (omega (arith, c.requires, c.loop-i.auto.buffer))
-    (fitting_is c.args.count c.args.buffer.now c.loop-i.i c.loop-i.register _ c.bit-at-bit.result (omega arith) c.loop-i.invariant.held (c.loop-i.invariant.rest _ (omega arith)) c.bit-at-bit.ensures)
-    c.word-of-word.ensures
-    c.x-of.ensures
+    (fitting_is c.args.count c.args.buffer.now c.loop-i.i c.loop-i.register _ c.bit_at-bit.result (omega arith) c.loop-i.invariant.held (c.loop-i.invariant.rest _ (omega arith)) c.bit_at-bit.ensures)
+    c.word_of-word.ensures
+    c.x_of.ensures
     c.if-buffer-i.false
-    c.y-of.ensures
+    c.y_of.ensures
     c.if-buffer-i-2.false
     c.loop-i.invariant
 

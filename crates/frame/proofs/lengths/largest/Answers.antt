@@ -10,9 +10,9 @@ returns-in-Ok c =
 pub loop-fl-preserved : goal.loop-fl-preserved
 loop-fl-preserved c =
     none_above_one_less _ _ c.loop-fl.invariant
-    (refused_is_not_legal _ _ _ c.with_fl.ensures c.in-default.ensures)
+    (refused_is_not_legal _ _ _ c.with_fl.ensures c.in_default.ensures)
 
-pub returns-in-default : goal.returns-in-default
-returns-in-default c =
+pub returns-in_default : goal.returns-in_default
+returns-in_default c =
     none_at_all _ _ (omega arith) c.loop-fl.invariant
-    (refused_is_not_legal _ _ _ c.with_fl.ensures c.in-default.ensures)
+    (refused_is_not_legal _ _ _ c.with_fl.ensures c.in_default.ensures)

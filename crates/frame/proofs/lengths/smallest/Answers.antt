@@ -9,4 +9,4 @@ returns-in-Ok c =
 
 pub loop-fl-preserved : goal.loop-fl-preserved
 loop-fl-preserved c =
-    below_more _ _ c.loop-fl.invariant (refused_is_not_legal _ _ _ c.with_fl.ensures c.in-default.ensures)
+    below_more _ _ c.loop-fl.invariant (refused_is_not_legal _ _ _ c.with_fl.ensures c.in_default.ensures)

@@ -8,10 +8,10 @@ loop-i-preserved c =
     c.args.buffer.now
     c.loop-i.buffer
     c.loop-i.i
-    c.other-bit.result
+    c.other_bit.result
     (omega (arith, c.requires, c.loop-i.auto.buffer))
     c.if-buffer-i-gt1.false
-    c.other-bit.ensures
+    c.other_bit.ensures
     c.loop-i.invariant
 
 pub returns-then-buffer-i-gt1 : goal.returns-then-buffer-i-gt1

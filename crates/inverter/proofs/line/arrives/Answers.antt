@@ -4,9 +4,9 @@ use Rattle.inverter.proofs.line.arrives.Goals as goal
 
 pub returns : goal.returns
 returns g c =
-    let sent = c.in-ok-length.ensures in
-    let received = c.in-ok-arrived.ensures in
+    let sent = c.in_ok-length.ensures in
+    let received = c.in_ok-arrived.ensures in
     let m = g.S.Stage.model c.args.stage.now in
-    let l = answered_means_legal m c.args.list.now c.in-ok-length.length _ _ sent.answer in
-    let whole : c.in-ok-length.length - 0 ≡ c.in-ok-length.length = omega arith in
-    decoded_again m c.args.list.now _ _ (g.met.S.Stage.keeps c.args.stage.now) l.0 (ap (λ k. take k c.code.new.result) whole ∙ sent.buffers.0) received.buffers.0
+    let l = answered_means_legal m c.args.list.now c.in_ok-length.length _ _ sent.answer in
+    let whole : c.in_ok-length.length - 0 ≡ c.in_ok-length.length = omega arith in
+    decoded_again m c.args.list.now _ _ (g.met.S.Stage.keeps c.args.stage.now) l.0 (ap (λ k. take k c.code.new.res) whole ∙ sent.buffers.0) received.buffers.0

@@ -8,11 +8,11 @@ returns-then-place-length c =
     not_unmarked
     c.args.n
     c.in-Some.length
-    c.leading-bits-place.result
+    c.leading_bits-place.result
     c.args.buffer.now
     (sym c.in-Some.ensures)
     c.requires
-    c.leading-bits-place.ensures
+    c.leading_bits-place.ensures
     (elim c.then-place-length.branch [
       | then-place-length-via-then-place-length w ↦ inl w.if-place-length.true
       | then-place-length-via-else-place-length+then-buffer-length-ne-MARK w ↦ inr w.if-buffer-length-ne-MARK.true
@@ -20,5 +20,5 @@ returns-then-place-length c =
 
 pub returns : goal.returns
 returns c =
-    let e = unmarked c.args.n c.in-Some.length c.leading-bits-place.result c.args.buffer.now (sym c.in-Some.ensures) c.requires c.leading-bits-place.ensures c.if-place-length.false c.if-buffer-length-ne-MARK.false in
+    let e = unmarked c.args.n c.in-Some.length c.leading_bits-place.result c.args.buffer.now (sym c.in-Some.ensures) c.requires c.leading_bits-place.ensures c.if-place-length.false c.if-buffer-length-ne-MARK.false in
     (e, omega (arith, (unmarked_is c.in-Some.length c.args.n (sym c.in-Some.ensures)).1, c.requires))

@@ -6,5 +6,5 @@ use Rattle.packing.proofs.words.word_of_header.Goals as goal
 
 pub returns : goal.returns
 returns c =
-    let word = ap (λ front. front ++ padding) (c.copy-from-slice.ensures.after ∙ c.checked-bits-checked.ensures) in
+    let word = ap (λ front. front ++ padding) (c.copy_from_slice.ensures.after ∙ c.checked_bits-checked.ensures) in
     record { word = word; bits = ap (within 1) word ∙ word_bits c.args.header }

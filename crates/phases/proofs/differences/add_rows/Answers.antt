@@ -13,12 +13,12 @@ loop-i-preserved c =
     (take c.args.n c.args.buffer.now)
     c.loop-i.buffer
     c.loop-i.i
-    c.cell-before.result
+    c.cell_before.result
     c.sum.result
     c.requires.row
     (omega (arith, length-take-le c.args.n c.args.buffer.now c.requires.front))
     (omega (arith, c.requires.front, c.loop-i.auto.buffer))
-    c.cell-before.ensures
+    c.cell_before.ensures
     c.sum.ensures
     c.loop-i.invariant
 

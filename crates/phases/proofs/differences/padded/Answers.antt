@@ -4,4 +4,4 @@ use Rattle.phases.proofs.differences.padded.Goals as goal
 
 pub returns : goal.returns
 returns c =
-    c.copy-front.ensures.front ∙ take_all (length c.args.reference.now) c.args.reference.now (omega arith)
+    c.copy_front.ensures.front ∙ take_all (length c.args.reference.now) c.args.reference.now (omega arith)

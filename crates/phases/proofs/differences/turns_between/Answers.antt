@@ -9,10 +9,10 @@ loop-i-preserved c =
     c.args.received.now
     c.loop-i.buffer
     c.loop-i.i
-    c.cell-before.result
+    c.cell_before.result
     c.turn.result
     (omega (arith, c.requires.to, c.loop-i.auto.buffer))
     (omega arith)
-    c.cell-before.ensures
+    c.cell_before.ensures
     c.turn.ensures
     c.loop-i.invariant

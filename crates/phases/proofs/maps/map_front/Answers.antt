@@ -7,8 +7,8 @@ pub loop-i-init : goal.loop-i-init
 loop-i-init c =
     map_none c.args.bits c.args.n c.args.buffer.now (record { width = c.requires.width; list = c.requires.list; inside = c.requires.front })
 
-pub number-at-requires : goal.number-at-requires
-number-at-requires c =
+pub number_at-requires : goal.number_at-requires
+number_at-requires c =
     let given : Given c.args.bits c.args.n c.args.buffer.now = record { width = c.requires.width; list = c.requires.list; inside = c.requires.front } in
     let within_list = next_inside c.args.bits c.args.n c.args.buffer.now c.loop-i.i given c.loop-i-test.true in
     record {
@@ -26,13 +26,13 @@ loop-i-preserved c =
     c.args.buffer.now
     c.loop-i.buffer
     c.loop-i.i
-    c.number-at.result
-    c.increment-for.result
+    c.number_at.result
+    c.increment_for.result
     given
     c.loop-i-test.true
     (omega (arith, fewer_increments c.args.bits c.requires.width c.args.n, c.requires.front, c.loop-i.auto.buffer))
-    c.number-at.ensures.value
-    c.increment-for.ensures
+    c.number_at.ensures.value
+    c.increment_for.ensures
     c.loop-i.invariant
 
 pub returns : goal.returns

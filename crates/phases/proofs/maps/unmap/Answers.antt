@@ -8,10 +8,10 @@ loop-i-preserved c =
     c.args.bits
     c.args.received.now
     c.loop-i.buffer
-    c.write-bits.new.buffer
+    c.write_bits.new.buffer
     c.loop-i.i
-    c.number-for-number.result
-    c.number-for-number.ensures
-    (sym c.increment-for.ensures ∙ c.if-increment-for-received.false)
-    c.write-bits.ensures
+    c.number_for-number.result
+    c.number_for-number.ensures
+    (sym c.increment_for.ensures ∙ c.if-increment_for-received.false)
+    c.write_bits.ensures
     c.loop-i.invariant

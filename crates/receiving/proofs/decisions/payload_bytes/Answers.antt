@@ -6,27 +6,27 @@ use Rattle.receiving.proofs.LiveLaws.{live_long, live_row, part_held}
 use Rattle.receiving.proofs.VerdictLaws.{legal_header, payload_refused, payload_told, refused_delivery}
 use Rattle.receiving.proofs.decisions.payload_bytes.Goals as goal
 
-pub decode-live-requires : goal.decode-live-requires
-decode-live-requires c =
+pub decode_live-requires : goal.decode_live-requires
+decode_live-requires c =
     let h = c.args.header in
     let k = c.args.rows.now in
     let legal = legal_header h c.requires.legal in
     record {
       legal = c.requires.legal;
-      refers = live_row h (row_at 12 (kept k)) _ legal c.live-reference-live.ensures.refers (part_held _ _ c.live-reference-live.result c.live-reference-live.ensures.live);
-      long = live_long h (drop 468 (kept k)) _ legal c.live-cells-count.ensures.long (part_held _ _ c.live-cells-count.result c.live-cells-count.ensures.live);
+      refers = live_row h (row_at 12 (kept k)) _ legal c.live_reference-live.ensures.refers (part_held _ _ c.live_reference-live.result c.live_reference-live.ensures.live);
+      long = live_long h (drop 468 (kept k)) _ legal c.live_cells-count.ensures.long (part_held _ _ c.live_cells-count.result c.live_cells-count.ensures.live);
     }
 
-pub returns-in-err-length : goal.returns-in-err-length
-returns-in-err-length c =
-    let p = err_from_is_err_and c.from-residual.result c.from-residual.ensures.1 in
+pub returns-in_err-length : goal.returns-in_err-length
+returns-in_err-length c =
+    let p = err_from_is_err_and c.from_residual.result c.from_residual.ensures.1 in
     let q =
-    payload_refused c.args.header _ _ _ _ c.in-err-length.field-0.0 (part_held _ _ c.live-reference-live.result c.live-reference-live.ensures.live) (part_held _ _ c.live-cells-count.result c.live-cells-count.ensures.live) c.in-err-length.ensures in
+    payload_refused c.args.header _ _ _ _ c.in_err-length.field-0.0 (part_held _ _ c.live_reference-live.result c.live_reference-live.ensures.live) (part_held _ _ c.live_cells-count.result c.live_cells-count.ensures.live) c.in_err-length.ensures in
     refused_delivery _ _ _ _ (p.1 ∙ ap Err p.2) q
 
 pub returns : goal.returns
 returns c =
-    let e = c.in-ok-length.ensures in (
-      payload_told c.args.header _ _ _ _ _ (part_held _ _ c.live-reference-live.result c.live-reference-live.ensures.live) (part_held _ _ c.live-cells-count.result c.live-cells-count.ensures.live) e.0,
+    let e = c.in_ok-length.ensures in (
+      payload_told c.args.header _ _ _ _ _ (part_held _ _ c.live_reference-live.result c.live_reference-live.ensures.live) (part_held _ _ c.live_cells-count.result c.live_cells-count.ensures.live) e.0,
       e.1,
     )

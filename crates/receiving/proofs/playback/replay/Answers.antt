@@ -11,7 +11,7 @@ loop-step-preserved c =
     let v = view c.loop-step.receiver in
     ap
     (λ q. q ++ answers_of (view c.play.new.receiver) (map call_of (drop (c.loop-step.step-index + 1) c.args.script.now)))
-    (ap (map answer_in) c.in-ok-push.ensures.items ∙ map_push answer_in (vec_items c.loop-step.replies) c.in-ok-reply.reply)
+    (ap (map answer_in) c.in_ok-push.ensures.items ∙ map_push answer_in (vec_items c.loop-step.replies) c.in_ok-reply.reply)
     ∙ played_more
     c.args.script.now
     c.loop-step.step-index
@@ -19,10 +19,10 @@ loop-step-preserved c =
     (map answer_in (vec_items c.loop-step.replies))
     v
     (view c.play.new.receiver)
-    (answer_in c.in-ok-reply.reply)
+    (answer_in c.in_ok-reply.reply)
     c.loop-step-test.true
-    (c.in-ok-reply.ensures.value ∙ ap (λ s. answer v (call_of s)) c.step-item.is)
-    (c.in-ok-reply.ensures.after ∙ ap (λ s. after v (call_of s)) c.step-item.is)
+    (c.in_ok-reply.ensures.value ∙ ap (λ s. answer v (call_of s)) c.step-item.is)
+    (c.in_ok-reply.ensures.after ∙ ap (λ s. after v (call_of s)) c.step-item.is)
     c.loop-step.invariant
 
 pub returns : goal.returns

@@ -8,8 +8,8 @@ returns c =
     c.args.n
     c.args.buffer.now
     c.divide.new.register
-    c.copy-from-slice.new.self
+    c.copy_from_slice.new.self
     c.requires.known
     (parity_room c.args.t c.args.n _ c.args.buffer.now c.requires.list c.requires.front c.requires.room)
-    c.copy-from-slice.ensures.after
+    c.copy_from_slice.ensures.after
     c.divide.ensures

@@ -8,7 +8,7 @@ loop-byte-init c =
 
 pub loop-byte-preserved : goal.loop-byte-preserved
 loop-byte-preserved c =
-    dividing_more c.args.t c.loop-byte.byte-index c.args.message.now c.generator-of-generator.result c.loop-byte.register c.shift.new.register c.requires.known c.generator-of-generator.ensures (omega arith) (omega (arith, c.requires.room, c.loop-byte.auto.register)) c.shift.auto.register c.shift.ensures c.loop-byte.invariant
+    dividing_more c.args.t c.loop-byte.byte-index c.args.message.now c.generator_of-generator.result c.loop-byte.register c.shift.new.register c.requires.known c.generator_of-generator.ensures (omega arith) (omega (arith, c.requires.room, c.loop-byte.auto.register)) c.shift.auto.register c.shift.ensures c.loop-byte.invariant
 
 pub returns : goal.returns
 returns c = dividing_all c.args.t c.loop-byte.byte-index c.args.message.now c.loop-byte.register (omega arith) c.loop-byte.invariant

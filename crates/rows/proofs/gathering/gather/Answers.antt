@@ -22,11 +22,11 @@ loop-cell-preserved c = (
       _
       c.loop-cell-test.true
       c.loop-cell.invariant.0
-      (c.is-live.ensures ∙ ap (live c.args.tm) c.loop-cell.invariant.1)
+      (c.is_live.ensures ∙ ap (live c.args.tm) c.loop-cell.invariant.1)
       refl
       c.keep-count.ensures.value
       c.keep-count.ensures.buffer,
-  next_place c.loop-cell.cell-index c.loop-cell.carrier _ c.loop-cell.invariant.1 c.next-carrier-carrier.ensures,
+  next_place c.loop-cell.cell-index c.loop-cell.carrier _ c.loop-cell.invariant.1 c.next_carrier-carrier.ensures,
 )
 
 pub returns : goal.returns

@@ -19,10 +19,10 @@ loop-place-preserved c = (
       c.loop-place.cells
       (omega (arith, c.loop-place-test.true))
       c.loop-place.invariant.0
-      (c.is-live-live.ensures ∙ ap (live c.args.tm) c.loop-place.invariant.1)
-      c.cell-for.ensures
+      (c.is_live-live.ensures ∙ ap (live c.args.tm) c.loop-place.invariant.1)
+      c.cell_for.ensures
       c.used-count.ensures,
-  next_place c.loop-place.place c.loop-place.carrier _ c.loop-place.invariant.1 c.next-carrier-carrier.ensures,
+  next_place c.loop-place.place c.loop-place.carrier _ c.loop-place.invariant.1 c.next_carrier-carrier.ensures,
 )
 
 pub returns : goal.returns

@@ -7,16 +7,16 @@ returns c =
     header_filled
     c.args.header
     c.args.reference.now
-    c.header-bits-bits.result
+    c.header_bits-bits.result
     _
     _
     _
     _
-    c.code-header.result
+    c.code_header.result
     c.requires
-    c.header-bits-bits.ensures
+    c.header_bits-bits.ensures
     (search rules)
     (search rules)
     (search rules)
-    c.code-header.ensures.answer
-    c.code-header.ensures.buffers
+    c.code_header.ensures.answer
+    c.code_header.ensures.buffers

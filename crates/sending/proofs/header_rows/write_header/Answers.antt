@@ -7,10 +7,10 @@ pub returns : goal.returns
 returns c =
     front_and_rest
     468
-    c.copy-front.new.to
-    c.header-cells-rows.result
+    c.copy_front.new.to
+    c.header_cells-rows.result
     c.args.cells.now
-    (ap length c.header-cells-rows.ensures ∙ (header_part_long c.args.header c.args.reference.now c.requires.reference).0)
-    c.copy-front.ensures.front
-    c.copy-front.ensures.rest
-    ∙ ap (λ q. q ++ drop 468 c.args.cells.now) c.header-cells-rows.ensures
+    (ap length c.header_cells-rows.ensures ∙ (header_part_long c.args.header c.args.reference.now c.requires.reference).0)
+    c.copy_front.ensures.front
+    c.copy_front.ensures.rest
+    ∙ ap (λ q. q ++ drop 468 c.args.cells.now) c.header_cells-rows.ensures

@@ -14,7 +14,7 @@ returns-in-Err c =
     c.args.bytes.now
     (replicate {A = ℕ} 9072 0)
     _
-    c.code-payload.result
+    c.code_payload.result
     _
     c.requires.legal
     c.requires.row
@@ -23,5 +23,5 @@ returns-in-Err c =
     (within_from 255 c.args.bytes.now (λ i l. omega (arith, c.type-inv.bytes i)))
     (length-replicate {A = ℕ} 9072 0)
     c.told-coded
-    c.code-payload.ensures.answer
+    c.code_payload.ensures.answer
     c.in-Err.is)

@@ -15,6 +15,6 @@ returns g c =
     let same : decode_room (pile a b) (length given) ≡ decode_room (pile a b) c.args.n =
     ap (decode_room (pile a b)) (length-take-le c.args.n c.args.res.now c.requires.front) in
     record {
-      left = c.decode-in.ensures;
-      rooms = room_behind a b given c.decode-in.new.work c.decode-in.new.result c.decode-in.result pb (omega (arith, same, c.requires.work-room, c.decode-in.auto.work)) (omega (arith, same, c.requires.result-room, c.decode-in.auto.result)) c.decode-in.ensures;
+      left = c.decode_in.ensures;
+      rooms = room_behind a b given c.decode_in.new.work c.decode_in.new.res c.decode_in.result pb (omega (arith, same, c.requires.work_room, c.decode_in.auto.work)) (omega (arith, same, c.requires.result_room, c.decode_in.auto.res)) c.decode_in.ensures;
     }

@@ -5,14 +5,14 @@ use Rattle.talk.proofs.words.run.Goals as goal
 pub loop-i-preserved : goal.loop-i-preserved
 loop-i-preserved c =
     run_more c.args.blanks c.args.text.now c.loop-i.i c.loop-i-test.true
-    (same_kind _ _ _ c.is_blank.ensures c.if-is-blank-blanks.false)
+    (same_kind _ _ _ c.is_blank.ensures c.if-is_blank-blanks.false)
     c.loop-i.invariant
 
-pub returns-then-is-blank-blanks : goal.returns-then-is-blank-blanks
-returns-then-is-blank-blanks c =
+pub returns-then-is_blank-blanks : goal.returns-then-is_blank-blanks
+returns-then-is_blank-blanks c =
     record {
       count = run_stops c.args.blanks c.args.text.now c.loop-i.i c.loop-i-test.true
-          (other_kind _ _ _ c.is_blank.ensures c.if-is-blank-blanks.true)
+          (other_kind _ _ _ c.is_blank.ensures c.if-is_blank-blanks.true)
           c.loop-i.invariant;
       within = omega arith;
     }

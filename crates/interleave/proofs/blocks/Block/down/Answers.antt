@@ -12,7 +12,7 @@ returns-then-row-self c =
       row = sym (mod-eq_of_lt c.if-row-self.true);
       target = c.wrapped-target.ensures
           ∙ column_back c.args.self.now.mi c.args.self.now.mj m (m - 1) c.args.walk.row c.args.self.now.turn c.args.walk.target c.args.self.now.back c.args.self.now.some from_last c.args.self.now.returns;
-      base = c.base-of-base.ensures;
+      base = c.base_of-base.ensures;
     }
 
 pub returns : goal.returns
@@ -27,5 +27,5 @@ returns c =
       row = less_end _ n (omega arith) (omega arith);
       target = c.wrapped-target-2.ensures
           ∙ column_back_over c.args.self.now.mi c.args.self.now.mj m n (m - 1) c.args.walk.row c.args.self.now.turn c.args.walk.target c.args.self.now.back_over c.args.self.now.some (omega arith) from_last c.args.self.now.rewraps;
-      base = c.base-of-base.ensures;
+      base = c.base_of-base.ensures;
     }

@@ -13,13 +13,13 @@ returns-then-place-n c =
     (goes_to m n)
     c.args.n
     c.in-Some.count
-    c.leading-bits-place.result
+    c.leading_bits-place.result
     c.args.buffer.now
     (known_few m n b c.args.self.now.known)
     (known_one_to_one m n b c.args.self.now.known)
     c.in-Some.ensures
     c.requires.front
-    c.leading-bits-place.ensures
+    c.leading_bits-place.ensures
     (omega arith)
 
 pub returns : goal.returns
@@ -34,16 +34,16 @@ returns c =
     (goes_to m n)
     c.args.n
     c.in-Some.count
-    c.leading-bits-place.result
+    c.leading_bits-place.result
     c.args.buffer.now
-    c.copy-front.new.to
-    c.put-back.new.buffer
+    c.copy_front.new.to
+    c.put_back.new.buffer
     (known_few m n b c.args.self.now.known)
     (known_one_to_one m n b c.args.self.now.known)
     c.in-Some.ensures
     c.requires.front
-    c.leading-bits-place.ensures
+    c.leading_bits-place.ensures
     (omega arith)
-    c.copy-front.ensures.front
-    c.put-back.ensures in
-    (decoded, omega (arith, whole, c.put-back.auto.buffer, c.requires.front))
+    c.copy_front.ensures.front
+    c.put_back.ensures in
+    (decoded, omega (arith, whole, c.put_back.auto.buffer, c.requires.front))

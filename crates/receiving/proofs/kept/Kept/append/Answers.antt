@@ -6,7 +6,7 @@ pub invariant-of-self : goal.invariant-of-self
 invariant-of-self c =
     let k = c.args.self.now in (
       omega arith,
-      (front_stays_phases k.rows _ k.cells c.copy-from-slice.new.self c.args.row.now (search rules) c.requires.long (search rules) c.requires.phases k.phases, tt),
+      (front_stays_phases k.rows _ k.cells c.copy_from_slice.new.self c.args.row.now (search rules) c.requires.long (search rules) c.requires.phases k.phases, tt),
     )
 
 pub returns : goal.returns
@@ -14,5 +14,5 @@ returns c =
     let k = c.args.self.now in
     record {
       rows = search rules;
-      cells = row_appended k.rows _ k.cells c.copy-from-slice.new.self c.args.row.now (search rules) c.requires.long (search rules);
+      cells = row_appended k.rows _ k.cells c.copy_from_slice.new.self c.args.row.now (search rules) c.requires.long (search rules);
     }

@@ -7,8 +7,8 @@ pub returns : goal.returns
 returns c =
     let k = c.args.self.now in
     record {
-      cells = c.row-from.ensures ∙ row_of_front k.rows c.args.number k.cells (omega arith);
+      cells = c.row_from.ensures ∙ row_of_front k.rows c.args.number k.cells (omega arith);
       refers =
-          ap is_reference c.row-from.ensures
+          ap is_reference c.row_from.ensures
           ∙ header_row_refers k.rows c.args.number k.cells (search rules) c.requires.header c.requires.inside k.phases;
     }

@@ -8,9 +8,9 @@ use Rattle.receiving.proofs.receivers.Receiver.take.Goals as goal
 pub returns : goal.returns
 returns c =
     record {
-      value = c.hand-over.ensures.value;
-      after = c.hand-over.ensures.after;
-      buffer = c.hand-over.ensures.buffer;
+      value = c.hand_over.ensures.value;
+      after = c.hand_over.ensures.after;
+      buffer = c.hand_over.ensures.buffer;
       law = λ cs e.
-          take_is_lawful cs (view c.args.self.now) (length c.args.out.now) c.hand-over.result c.args.out.now c.hand-over.new.out (history_law decisions_exact cs) e c.hand-over.ensures.value c.hand-over.ensures.buffer;
+          take_is_lawful cs (view c.args.self.now) (length c.args.out.now) c.hand_over.result c.args.out.now c.hand_over.new.out (history_law decisions_exact cs) e c.hand_over.ensures.value c.hand_over.ensures.buffer;
     }

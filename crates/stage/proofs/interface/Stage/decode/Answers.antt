@@ -6,38 +6,38 @@ use Rattle.stage.specs.Rooms.{given_fits_decode_room}
 use Rattle.stage.proofs.Calling.{outline_fits, copied_whole, beside, room_tested, decode_answered, decode_refused, fault_leaves}
 use Rattle.stage.proofs.interface.Stage.decode.Goals as goal
 
-pub copy-front-requires : goal.copy-front-requires
-copy-front-requires g c =
+pub copy_front-requires : goal.copy_front-requires
+copy_front-requires g c =
     let given = given_fits_decode_room (g.Self.Stage.model c.args.self.now) (length c.args.list.now) in
-    let room = room_tested _ _ _ c.decoded-span-span.result c.fits-in.result (ap (λ (s : Span). s.longest) c.decoded-span-span.ensures) c.fits-in.ensures c.if-not-fits-in.false in
+    let room = room_tested _ _ _ c.decoded_span-span.result c.fits_in.result (ap (λ (s : Span). s.longest) c.decoded_span-span.ensures) c.fits_in.ensures c.if-not-fits_in.false in
     record { source = omega arith; target = omega (arith, given, room.1) }
 
-pub decode-in-requires : goal.decode-in-requires
-decode-in-requires g c =
+pub decode_in-requires : goal.decode_in-requires
+decode_in-requires g c =
     let m = g.Self.Stage.model c.args.self.now in
-    let room = room_tested _ _ _ c.decoded-span-span.result c.fits-in.result (ap (λ (s : Span). s.longest) c.decoded-span-span.ensures) c.fits-in.ensures c.if-not-fits-in.false in
+    let room = room_tested _ _ _ c.decoded_span-span.result c.fits_in.result (ap (λ (s : Span). s.longest) c.decoded_span-span.ensures) c.fits_in.ensures c.if-not-fits_in.false in
     let given = given_fits_decode_room m (length c.args.list.now) in
     record {
       fit = outline_fits m c.outline.result c.outline.ensures c.if-not-outline.false;
-      front = omega (arith, given, room.1, c.copy-front.auto.to);
-      work-room = room.0;
-      result-room = omega (arith, room.1, c.copy-front.auto.to);
+      front = omega (arith, given, room.1, c.copy_front.auto.to);
+      work_room = room.0;
+      result_room = omega (arith, room.1, c.copy_front.auto.to);
     }
 
-pub returns-in-err-length : goal.returns-in-err-length
-returns-in-err-length g c =
+pub returns-in_err-length : goal.returns-in_err-length
+returns-in_err-length g c =
     let m = g.Self.Stage.model c.args.self.now in
     let list = c.args.list.now in
     let fit = outline_fits m c.outline.result c.outline.ensures c.if-not-outline.false in
-    let room = room_tested _ _ _ c.decoded-span-span.result c.fits-in.result (ap (λ (s : Span). s.longest) c.decoded-span-span.ensures) c.fits-in.ensures c.if-not-fits-in.false in
-    let whole = copied_whole list c.copy-front.new.to c.copy-front.ensures.front in
-    let fault = c.in-err-length.field-0.0 in
-    let p = err_from_is_err_and c.from-residual.result c.from-residual.ensures.1 in
+    let room = room_tested _ _ _ c.decoded_span-span.result c.fits_in.result (ap (λ (s : Span). s.longest) c.decoded_span-span.ensures) c.fits_in.ensures c.if-not-fits_in.false in
+    let whole = copied_whole list c.copy_front.new.to c.copy_front.ensures.front in
+    let fault = c.in_err-length.field-0.0 in
+    let p = err_from_is_err_and c.from_residual.result c.from_residual.ensures.1 in
     let turned = p.1 ∙ ap Err p.2 in
-    let no_list = ap (decoding m) (sym whole) ∙ c.in-err-length.ensures in
+    let no_list = ap (decoding m) (sym whole) ∙ c.in_err-length.ensures in
     record {
       answer = turned ∙ decode_refused m list fault _ _ fit room.0 room.1 no_list;
-      buffers = fault_leaves (decoding m list) _ fault _ _ _ _ turned c.decode-in.auto.work (c.decode-in.auto.result ∙ c.copy-front.auto.to);
+      buffers = fault_leaves (decoding m list) _ fault _ _ _ _ turned c.decode_in.auto.work (c.decode_in.auto.res ∙ c.copy_front.auto.to);
     }
 
 pub returns : goal.returns
@@ -45,11 +45,11 @@ returns g c =
     let m = g.Self.Stage.model c.args.self.now in
     let list = c.args.list.now in
     let fit = outline_fits m c.outline.result c.outline.ensures c.if-not-outline.false in
-    let room = room_tested _ _ _ c.decoded-span-span.result c.fits-in.result (ap (λ (s : Span). s.longest) c.decoded-span-span.ensures) c.fits-in.ensures c.if-not-fits-in.false in
-    let whole = copied_whole list c.copy-front.new.to c.copy-front.ensures.front in
-    let left = c.in-ok-length.ensures in
+    let room = room_tested _ _ _ c.decoded_span-span.result c.fits_in.result (ap (λ (s : Span). s.longest) c.decoded_span-span.ensures) c.fits_in.ensures c.if-not-fits_in.false in
+    let whole = copied_whole list c.copy_front.new.to c.copy_front.ensures.front in
+    let left = c.in_ok-length.ensures in
     let the_list = ap (decoding m) (sym whole) ∙ left.0 in
     record {
-      answer = decode_answered m list c.decode-in.new.result c.in-ok-length.length _ _ fit room.0 room.1 the_list left.1;
-      buffers = (the_list, beside c.in-ok-length.length _ _ _ _ left.1 c.decode-in.auto.work (c.decode-in.auto.result ∙ c.copy-front.auto.to));
+      answer = decode_answered m list c.decode_in.new.res c.in_ok-length.length _ _ fit room.0 room.1 the_list left.1;
+      buffers = (the_list, beside c.in_ok-length.length _ _ _ _ left.1 c.decode_in.auto.work (c.decode_in.auto.res ∙ c.copy_front.auto.to));
     }
