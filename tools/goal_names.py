@@ -17,7 +17,7 @@ TOKEN = re.compile(r"(?<![\w'-])[^\W\d][\w']*(?:-[\w']+)+(?![\w'-])")
 RATTLE = [
     "overflow_add", "overflow_sub", "overflow_mul", "overflow_cast", "overflow_neg", "overflow_shl", "overflow_shr",
     "overflow_div", "overflow_rem", "in_ok", "in_err", "in_some", "in_none", "in_default",
-    "i_in_bounds", "not_none", "has_next",
+    "type_inv", "i_in_bounds", "not_none", "has_next",
 ]
 
 

@@ -8,7 +8,7 @@ returns-then-same-t c =
       known = c.requires.known;
       lengths = sym c.in-Some.ensures;
       room = c.requires.front;
-      bytes = λ i. omega (arith, c.type-inv.buffer i);
+      bytes = λ i. omega (arith, c.type_inv.buffer i);
       right = c.divide.ensures;
       agreeing = c.agreeing-same.ensures;
     } in
@@ -20,7 +20,7 @@ returns c =
       known = c.requires.known;
       lengths = sym c.in-Some.ensures;
       room = c.requires.front;
-      bytes = λ i. omega (arith, c.type-inv.buffer i);
+      bytes = λ i. omega (arith, c.type_inv.buffer i);
       right = c.divide.ensures;
       agreeing = c.agreeing-same.ensures;
     } in

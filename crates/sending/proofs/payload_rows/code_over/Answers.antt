@@ -20,7 +20,7 @@ returns-in-Err c =
     c.requires.row
     c.requires.live
     c.requires.exactly
-    (within_from 255 c.args.bytes.now (λ i l. omega (arith, c.type-inv.bytes i)))
+    (within_from 255 c.args.bytes.now (λ i l. omega (arith, c.type_inv.bytes i)))
     (length-replicate {A = ℕ} 9072 0)
     c.told-coded
     c.code_payload.ensures.answer

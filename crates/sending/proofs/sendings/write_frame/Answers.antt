@@ -30,5 +30,5 @@ returns c =
       value = ap (λ (p : ℕ × ℕ). p.1) c.legal_size-rows.ensures;
       buffer = written;
       law = subst (HoldsFrame reference h bytes cells) (sym written)
-          (sent_holds h reference bytes cells (tested_legal h fit.0) fit.1.1.0 fit.1.0 (within_from 255 bytes (λ i l. omega (arith, c.type-inv.bytes i))) fit.1.1.1);
+          (sent_holds h reference bytes cells (tested_legal h fit.0) fit.1.1.0 fit.1.0 (within_from 255 bytes (λ i l. omega (arith, c.type_inv.bytes i))) fit.1.1.1);
     }
