@@ -5,5 +5,5 @@ pub returns : goal.returns
 returns c =
     record {
       value = c.new.ensures;
-      meaning = made_means c.args.header c.args.reference.now c.new.res c.new.ensures;
+      meaning = made_means c.args.header c.args.reference.now c.new.result c.new.ensures;
     }
