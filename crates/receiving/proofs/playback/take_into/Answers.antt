@@ -4,8 +4,8 @@ use Rattle.receiving.specs.Steps.{taken}
 use Rattle.receiving.proofs.ScriptLaws.{took_with_bytes}
 use Rattle.receiving.proofs.playback.take_into.Goals as goal
 
-pub returns-in_ok-extend_from_slice : goal.returns-in_ok-extend_from_slice
-returns-in_ok-extend_from_slice c =
+pub returns-in_ok-extend_from_slice-in-Ok : goal.returns-in_ok-extend_from_slice-in-Ok
+returns-in_ok-extend_from_slice-in-Ok c =
     let t = c.in-Ok.ensures in
     record {
       value = took_with_bytes
