@@ -4,4 +4,4 @@ use Rattle.desk.proofs.receives.part_text.Goals as goal
 
 pub returns-in-Payload : goal.returns-in-Payload
 returns-in-Payload c =
-    subst (λ p. IfOk c.word-text_in-Payload.result (λ t. vec_items t ≡ part_text p)) (sym c.in-Payload.is) c.word-text_in-Payload.ensures
+    subst (λ p. IfOk c.word_text-in-Payload.result (λ t. vec_items t ≡ part_text p)) (sym c.in-Payload.is) c.word_text-in-Payload.ensures
