@@ -1,5 +1,6 @@
 -- What begin and finish leave at the desk.
-use Rattle.std.proofs.Common.{◌≡◌, ℕ, List, length, replicate, Some, None, Ok, Err, codes, Option, Result, sym, refl, ap, ◌∙◌}
+use Rattle.std.proofs.Common.{◌≡◌, ◌⊎◌, ℕ, List, [], ◌∷◌, length, replicate, Some, None, Ok, Err, codes, Option, Result, inl, inr, sym, refl, ap, ◌∙◌}
+use Rattle.std.specs.List.{AllClonesOf}
 use lib.ListN.{length-replicate}
 use Rattle.desk.specs.Sending.{BeginAsked, begin_turn, begun_turn, finish_if, finish_turn, finished_turn}
 use Rattle.desk.specs.Views.{DeskView, Took, Turn}
@@ -10,6 +11,14 @@ use Rattle.sending.specs.declared.refusals.BeginRefusal.{BeginRefusal}
 use Rattle.sending.specs.declared.refusals.FinishRefusal.{FinishRefusal}
 use Rattle.sending.specs.Numbers.{finish_number}
 use Rattle.sending.specs.Sendings.{begin_answer, begin_buffer, finish_answer, finish_buffer}
+
+-- a list of which each element is 0, or a clone of 0, has no other
+pub zeros_only : (xs : List ℕ) → AllClonesOf (λ (x y : ℕ). y ≡ x) 0 xs → xs ≡ replicate (length xs) 0
+zeros_only [] each = refl
+zeros_only (x ∷ xs) each =
+    let here : x ≡ 0 = elim each.0 [ inl e ↦ e | inr e ↦ e ] in
+    let rest = zeros_only xs each.1 in
+    λ t. here t ∷ rest t
 
 -- a turn by its two parts
 took : (turn other : Turn) (text : List ℕ) (after : DeskView) → turn ≡ other → after ≡ other.0 → text ≡ other.1 → Took turn text after
