@@ -1,24 +1,22 @@
 -- For callers of the chains: what their calls answer to lists of the right length.
-use Rattle.std.proofs.Common.{◌≡◌, ℕ, ◌*◌, ◌≤◌, Bool, true, cond, List, length, Some, None, Ok, Err, Option, Result, sym, refl, ap, ◌∙◌, subst, arith}
+use Rattle.std.proofs.Common.{◌≡◌, ℕ, ◌*◌, ◌≤◌, true, cond, List, length, Some, Ok, Err, Option, sym, ap, ◌∙◌, arith}
 use Rattle.chains.proofs.HeaderSteps.{header_carries}
 use Rattle.chains.proofs.MadeChains.{row_test}
 use Rattle.chains.proofs.PayloadSteps.{payload_carries}
 use Rattle.chains.specs.Calls.{by_chain, code_header_answer, code_payload_answer, decode_header_answer, decode_payload_answer, made_header_chain, made_payload_chain, on_header, on_payload, payload_chain_sized}
 use Rattle.chains.specs.Carries.{Carries}
 use Rattle.chains.specs.Chains.{header_chain, payload_chain}
-use Rattle.chains.specs.declared.refusals.ChainRefusal.{ChainRefusal}
 use Rattle.chains.specs.declared.refusals.ChainRefusal.TheVariants.{Reference}
 use Rattle.frame.specs.Answers.{Legal, payload, unless_refused}
 use Rattle.frame.specs.declared.headers.Header.{Header}
 use Rattle.frame.specs.Sizes.{live_carriers, payload_rows, row_count}
 use Rattle.stage.proofs.Calling.{roomy_enough}
-use Rattle.stage.specs.Legality.{legal_from_parts, legal_length, legal_within}
+use Rattle.stage.specs.Legality.{legal_from_parts, legal_within}
 use Rattle.stage.specs.Lists.{some_is_there}
 use Rattle.stage.specs.Calls.{code_answer, counted, decode_answer}
-use Rattle.stage.specs.declared.faults.Refusal.{Refusal}
 use Rattle.stage.specs.declared.faults.Refusal.TheVariants.{Setting}
 use Rattle.stage.specs.Lengths.{roomy}
-use Rattle.stage.specs.Model.{Model, fits, takes, puts, legal, coding, decoding, coded_length, message_length, code_room, decode_room}
+use Rattle.stage.specs.Model.{Model, fits, legal, coding, decoding, coded_length, code_room, decode_room}
 use Rattle.stage.specs.Plain.{within}
 use Rattle.std.proofs.lemmas.Bool.{cond-true}
 

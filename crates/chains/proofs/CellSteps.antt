@@ -1,5 +1,5 @@
 -- From bits to cells: the three stages nearest the line, of either chain.
-use Rattle.std.proofs.Common.{◌≡◌, ℕ, ◌+◌, ◌*◌, ◌/◌, ◌%◌, ◌<◌, ◌≤◌, true, cond, ◌&&◌, eqb, leb, List, length, Some, None, Option, sym, refl, ap, ◌∙◌, subst, mul_comm, mul-div_cancel, arith}
+use Rattle.std.proofs.Common.{◌≡◌, ℕ, ◌*◌, ◌/◌, ◌%◌, ◌<◌, ◌≤◌, true, ◌&&◌, eqb, leb, List, length, Some, None, refl, ap, ◌∙◌, mul_comm, mul-div_cancel, arith}
 use native.Mathlib.Nat.{mul-mod_left}
 use Rattle.chains.proofs.Steps.{Step, step_plain, step_pile}
 use Rattle.chains.specs.Chains.{to_cells}

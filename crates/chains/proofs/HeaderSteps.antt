@@ -1,8 +1,8 @@
 -- The header chain carries 28 bits in 468 cells.
-use Rattle.std.proofs.Common.{◌≡◌, ℕ, eqb, Some, None, Option, refl, arith}
+use Rattle.std.proofs.Common.{refl, arith}
 use Rattle.chains.proofs.CellSteps.{cells_step}
 use Rattle.chains.proofs.Steps.{Step, step_plain, step_pile, Only, one_length, only_by_first, carried}
-use Rattle.chains.specs.Carries.{Carries, HeaderCarries}
+use Rattle.chains.specs.Carries.{HeaderCarries}
 use Rattle.chains.specs.Chains.{header_chain, to_cells}
 use Rattle.codings.specs.CheckLaws.{checking_sound}
 use Rattle.codings.specs.RepeatLaws.{repetition_sound}

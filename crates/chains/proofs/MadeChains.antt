@@ -1,5 +1,5 @@
 -- The stages of a chain, piled up, are the chain.
-use Rattle.std.proofs.Common.{◌≡◌, ℕ, ◌+◌, ◌-◌, ◌*◌, ◌/◌, ◌≤◌, Bool, true, false, cond, ◌&&◌, eqb, List, length, Some, None, Ok, Err, Option, Result, sym, refl, ap, ◌∙◌, arith}
+use Rattle.std.proofs.Common.{◌≡◌, ℕ, ◌-◌, ◌≤◌, Bool, true, false, cond, ◌&&◌, List, length, Some, None, Ok, Err, Option, Result, sym, refl, ap, ◌∙◌, arith}
 use Rattle.chains.proofs.CellSteps.{known_row, known_width}
 use Rattle.chains.proofs.PayloadSteps.{known_strengths, sound_known, sound_fillable}
 use Rattle.chains.specs.Calls.{made_header_chain, made_payload_chain, payload_chain_sized}

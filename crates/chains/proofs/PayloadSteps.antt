@@ -1,9 +1,8 @@
 -- The payload chain of a legal header carries its payload in the live cells of its payload rows.
-use Rattle.std.proofs.Common.{◌≡◌, ℕ, ◌+◌, ◌-◌, ◌*◌, ◌%◌, ◌<◌, ◌≤◌, true, cond, ◌&&◌, eqb, leb, List, length, Some, None, Option, sym, refl, ap, ◌∙◌, subst, arith}
-use lib.Count.{ones}
+use Rattle.std.proofs.Common.{◌≡◌, ℕ, ◌+◌, ◌-◌, ◌*◌, ◌%◌, ◌<◌, ◌≤◌, true, cond, ◌&&◌, eqb, leb, Some, None, refl, ap, ◌∙◌, subst, arith}
 use Rattle.chains.proofs.CellSteps.{cells_step}
 use Rattle.chains.proofs.Steps.{Step, step_plain, step_pile, Only, one_length, only_by_first, only_by_second, carried}
-use Rattle.chains.specs.Carries.{Carries, PayloadCarries}
+use Rattle.chains.specs.Carries.{PayloadCarries}
 use Rattle.chains.specs.Chains.{convolved_bits, payload_chain, to_bits, to_cells, with_copies}
 use Rattle.codings.specs.FillLaws.{filling_sound}
 use Rattle.codings.specs.RepeatLaws.{repetition_sound}

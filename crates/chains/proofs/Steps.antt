@@ -1,5 +1,5 @@
 -- A stage on lists of one length: what it takes, puts out and needs, and how two of them pile up.
-use Rattle.std.proofs.Common.{◌≡◌, ℕ, ◌+◌, ◌≤◌, Bool, true, false, cond, ◌&&◌, eqb, leb, Some, None, Option, sym, refl, ap, ◌∙◌, subst, arith}
+use Rattle.std.proofs.Common.{◌≡◌, ℕ, ◌+◌, ◌≤◌, Bool, true, false, cond, ◌&&◌, eqb, leb, Some, None, Option, sym, refl, ap, ◌∙◌, arith}
 use Rattle.chains.specs.Carries.{Carries}
 use Rattle.stage.specs.PilePromise.{pile_keeps}
 use Rattle.stage.specs.Lengths.{longest_with, through}

@@ -1,6 +1,6 @@
 -- The two chains of the frame coder: piles of stages, in each of which the first is nearer the host
 -- and the second nearer the line.
-use Rattle.std.specs.Prelude.{ℕ, ◌+◌, ◌*◌, Bool, cond, ◌&&◌, List, length, ◌==◌}
+use Rattle.std.specs.Prelude.{ℕ, ◌+◌, ◌*◌, Bool, ◌&&◌, List, length, ◌==◌}
 use Rattle.codings.specs.Checks.{checking}
 use Rattle.codings.specs.Fills.{filling}
 use Rattle.codings.specs.Repeats.{repetition}

@@ -1,8 +1,7 @@
 -- The turns of the loops that code and decode.
-use Rattle.std.proofs.Common.{◌≡◌, ℕ, ◌+◌, ◌-◌, ◌*◌, ◌%◌, ◌<◌, ◌≤◌, min, max, true, cond, ltb, ◌⊎◌, List, [], ◌∷◌, map, length, get_or, take, set, Some, None, Ok, Err, sym, refl, ap, ◌∙◌, subst, inl, inr, arith, below_more}
+use Rattle.std.proofs.Common.{◌≡◌, ℕ, ◌+◌, ◌*◌, ◌%◌, ◌<◌, ◌≤◌, max, true, ltb, ◌⊎◌, List, length, get_or, take, set, Some, None, Ok, Err, sym, refl, ap, ◌∙◌, subst, inl, inr, arith, below_more}
 use lib.Bits.{bit_xor}
 use Rattle.std.proofs.lemmas.List.{length-take-le, get_or-take, get_or_past, get_or-set_same, get_or-set_other, take-set-le, length-set}
-use Rattle.std.proofs.lemmas.List.FromFn.{fill_by_all}
 use Rattle.std.proofs.lemmas.List.Edits.{fill_by_more}
 use Rattle.std.proofs.lemmas.Bool.{lt-ltb, le-ltb, cond-true, cond-false, cases_lt}
 use Rattle.stage.specs.Faults.{fault_at}
@@ -11,10 +10,10 @@ use Rattle.stage.specs.Plain.{within}
 use Rattle.stage.specs.Model.{plain, legal, decoding, code_room}
 use Rattle.stage.specs.Calls.{Holds}
 use Rattle.stage.specs.Lists.{within_at, same_by_places, some_is_there}
-use Rattle.stage.specs.Legality.{legal_within, legal_from_parts}
+use Rattle.stage.specs.Legality.{legal_from_parts}
 use Rattle.stage.proofs.Plains.{plain_accepts, plain_refuses}
 use Rattle.convolution.specs.Agreement.{Agrees}
-use Rattle.convolution.specs.Convolutions.{most_bits, tail, bit, output, convolved, convolved_length, plain_length, nearest_bit, nearest, convolution}
+use Rattle.convolution.specs.Convolutions.{most_bits, tail, output, convolved, convolved_length, plain_length, nearest_bit, nearest, convolution}
 use Rattle.convolution.specs.Words.{past, word_x, word_y, fitting_bit, ZeroTail, Regained}
 use Rattle.convolution.specs.BitLaws.{length_convolved, convolved_at}
 use Rattle.convolution.proofs.WordLaws.{past_small, past_start, register_gives_x, turn_x, turn_y, turn_register}

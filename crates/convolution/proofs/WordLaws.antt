@@ -1,10 +1,10 @@
 -- The register against the bits before a place.
-use Rattle.std.proofs.Common.{◌≡◌, ℕ, zero, suc, ◌+◌, ◌-◌, ◌*◌, ◌/◌, ◌%◌, ◌^◌, ◌<◌, ◌≤◌, Bool, true, ◌&&◌, eqb, List, [], ◌∷◌, length, get_or, sym, refl, ap, ◌∙◌, subst, arith}
-use lib.Bits.{bit_and, bit_xor, xor_zero_l}
+use Rattle.std.proofs.Common.{◌≡◌, ℕ, zero, suc, ◌+◌, ◌*◌, ◌/◌, ◌%◌, ◌^◌, ◌<◌, ◌≤◌, Bool, true, ◌&&◌, eqb, List, [], ◌∷◌, get_or, sym, refl, ap, ◌∙◌, arith}
+use lib.Bits.{bit_xor, xor_zero_l}
 use Rattle.std.proofs.lemmas.Bool.Decides.{Decides-below_and, Decides-eqb}
 use Rattle.stage.specs.Plain.{within}
 use Rattle.convolution.specs.Convolutions.{bit, x_taps, y_taps, tapped, output}
-use Rattle.convolution.specs.Words.{past, word_x, word_y, fitting_bit}
+use Rattle.convolution.specs.Words.{past, word_x, word_y}
 use Rattle.convolution.specs.BitLaws.{x_past, bit_here, bit_suc, bit_small, output_even, output_odd}
 
 -- whether two functions agree at all numbers below n

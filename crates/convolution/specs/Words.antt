@@ -1,5 +1,5 @@
 -- Seven bits in a row as one number, the newest in the lowest place: what the code's register holds.
-use Rattle.std.specs.Prelude.{◌≡◌, ℕ, ◌+◌, ◌*◌, ◌/◌, ◌<◌, ◌≤◌, cond, List, length, take, bit_and, bit_xor, nat_lt, slice_index}
+use Rattle.std.specs.Prelude.{◌≡◌, ℕ, ◌+◌, ◌*◌, ◌/◌, ◌<◌, ◌≤◌, cond, List, take, bit_and, bit_xor, nat_lt, slice_index}
 use Rattle.convolution.specs.Convolutions.{tail, bit, convolved, nearest, nearest_bit}
 use Rattle.convolution.specs.Agreement.{Agrees}
 

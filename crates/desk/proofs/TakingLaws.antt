@@ -1,5 +1,5 @@
 -- The bytes in front of a buffer after a take.
-use Rattle.std.proofs.Common.{◌≡◌, ℕ, List, ◌++◌, length, take, drop, Ok, Err, Result, sym, refl, ap, ◌∙◌, arith}
+use Rattle.std.proofs.Common.{◌≡◌, ℕ, List, length, take, drop, Ok, Err, Result, sym, refl, ap, ◌∙◌, arith}
 use Rattle.desk.specs.Receiving.{TakesOut}
 use Rattle.frame.specs.declared.headers.Header.{Header}
 use Rattle.receiving.specs.declared.refusals.TakeRefusal.{TakeRefusal}

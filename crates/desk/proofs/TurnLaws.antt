@@ -1,5 +1,5 @@
 -- What begin and finish leave at the desk.
-use Rattle.std.proofs.Common.{◌≡◌, ◌⊎◌, ℕ, List, [], ◌∷◌, length, replicate, Some, None, Ok, Err, codes, Option, Result, inl, inr, sym, refl, ap, ◌∙◌}
+use Rattle.std.proofs.Common.{◌≡◌, ℕ, List, [], ◌∷◌, length, replicate, Some, None, Ok, Err, codes, Option, Result, inl, inr, sym, refl, ap, ◌∙◌}
 use Rattle.std.specs.List.{AllClonesOf}
 use lib.ListN.{length-replicate}
 use Rattle.desk.specs.Sending.{BeginAsked, begin_turn, begun_turn, finish_if, finish_turn, finished_turn}

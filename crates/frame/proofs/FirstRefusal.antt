@@ -1,5 +1,5 @@
 -- A header is refused with the first refusal that applies to it.
-use Rattle.std.proofs.Common.{◌≡◌, ℕ, ◌+◌, ◌/◌, ◌%◌, ◌<◌, ◌≤◌, ◌⊎◌, IfSome, Some, None, Option, refl, inl, inr, arith, MatchOption}
+use Rattle.std.proofs.Common.{◌≤◌, IfSome, Some, None, Option, arith, MatchOption}
 use Rattle.frame.specs.declared.headers.Header.{Header}
 use Rattle.frame.specs.declared.refusals.Field.TheVariants.{Pdc, Mod, Fl, Tm, Dt}
 use Rattle.frame.specs.declared.refusals.Refusal.{Refusal}

@@ -1,5 +1,5 @@
 -- What legality tells, and what `size` answers because of it.
-use Rattle.std.proofs.Common.{◌≡◌, ℕ, ◌<◌, ◌≤◌, Some, None, Ok, Err, Option, Result, sym, refl, ap, arith}
+use Rattle.std.proofs.Common.{◌≡◌, ℕ, ◌≤◌, Some, None, Ok, Err, Option, sym, refl, ap, arith}
 use Rattle.frame.specs.declared.headers.Header.{Header}
 use Rattle.frame.specs.declared.refusals.Refusal.{Refusal}
 use Rattle.frame.specs.Answers.{Legal, payload, refusal, size_answer, unless_refused}

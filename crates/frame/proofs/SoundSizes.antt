@@ -1,13 +1,13 @@
 -- The sizes of a legal header are sound.
-use Rattle.std.proofs.Common.{◌≡◌, ℕ, zero, suc, ◌+◌, ◌-◌, ◌*◌, ◌/◌, ◌%◌, ◌<◌, ◌≤◌, cond, ltb, sym, refl, ap, ◌∙◌, mul_assoc, mul-zero, zero-mul, mul_left_comm, arith}
+use Rattle.std.proofs.Common.{◌≡◌, ℕ, zero, suc, ◌+◌, ◌-◌, ◌*◌, ◌/◌, ◌%◌, ◌<◌, ◌≤◌, cond, ltb, ap, ◌∙◌, mul_assoc, mul-zero, zero-mul, mul_left_comm, arith}
 use lib.Count.{ones}
 use Rattle.frame.specs.declared.headers.Header.{Header}
 use Rattle.frame.specs.declared.modulations.Modulation.{Modulation}
 use Rattle.frame.specs.declared.modulations.Modulation.TheVariants.{Robust, Dbpsk, Dqpsk, D8psk}
-use Rattle.frame.specs.Answers.{Legal, block, parity, payload}
-use Rattle.frame.specs.Laws.{Sound, Legal_sizes_are_sound}
+use Rattle.frame.specs.Answers.{Legal, block, parity}
+use Rattle.frame.specs.Laws.{Legal_sizes_are_sound}
 use Rattle.frame.specs.Modulations.{modulation_of, bits_per_cell, copies}
-use Rattle.frame.specs.Sizes.{block_bytes, coded_bits, live_carriers, parity_bytes, payload_bytes, payload_rows, row_count}
+use Rattle.frame.specs.Sizes.{coded_bits, live_carriers, payload_rows}
 use Rattle.frame.proofs.Legality.{legal_fl}
 use Rattle.std.proofs.lemmas.Nat.{ones-le}
 use Rattle.std.proofs.lemmas.Bool.Decides.{nat_tests}

@@ -1,6 +1,5 @@
 -- The turns of the loops that move bits, and what the calls come to.
-use Rattle.std.proofs.Common.{◌≡◌, ℕ, ◌+◌, ◌*◌, ◌<◌, ◌≤◌, true, List, map, length, get_or, take, set, Some, None, Ok, Err, Option, sym, refl, ap, ◌∙◌, subst, arith, below_more}
-use Rattle.std.specs.List.{range_with_len}
+use Rattle.std.proofs.Common.{◌≡◌, ℕ, ◌+◌, ◌*◌, ◌<◌, ◌≤◌, true, List, length, get_or, take, set, Some, Ok, Err, Option, sym, refl, ap, ◌∙◌, subst, arith, below_more}
 use Rattle.std.proofs.lemmas.Nat.{mul-le}
 use Rattle.std.proofs.lemmas.List.FromFn.{length-map-range_with_len, get_or-map-range_with_len, fill_by_all}
 use Rattle.std.proofs.lemmas.List.Edits.{fill_by_more}
@@ -13,7 +12,7 @@ use Rattle.stage.specs.Lists.{same_by_places, some_is_there, within_at}
 use Rattle.stage.specs.Legality.{legal_from_parts}
 use Rattle.stage.proofs.Plains.{plain_accepts, plain_refuses}
 use Rattle.interleave.specs.Places.{OneToOne}
-use Rattle.interleave.specs.Interleavings.{known_sizes, goes_to, comes_from, moved, nearest_bit, fetched, gathered, exactly, moving, Leading}
+use Rattle.interleave.specs.Interleavings.{known_sizes, goes_to, comes_from, moved, fetched, gathered, exactly, moving, Leading}
 use Rattle.interleave.specs.MoveLaws.{exactly_is, exactly_legal, source_of, length_moved, moved_at, length_fetched, fetched_at, coded_fetched_at, legal_many, moving_sound, goes_one_to_one, sizes_known}
 
 -- what known sizes give

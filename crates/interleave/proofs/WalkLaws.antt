@@ -1,10 +1,10 @@
 -- The steps of a walk: modulo n, a sum goes on by what is added.
-use Rattle.std.proofs.Common.{◌≡◌, ℕ, ◌+◌, ◌-◌, ◌*◌, ◌/◌, ◌%◌, ◌<◌, ◌≤◌, cond, ltb, ◌⊎◌, sym, refl, ap, ◌∙◌, subst, inl, inr, mod-lt, mod-eq_of_lt, mul_comm, add-mul, mul-pos, mul-add, arith}
+use Rattle.std.proofs.Common.{◌≡◌, ℕ, ◌+◌, ◌-◌, ◌*◌, ◌/◌, ◌%◌, ◌<◌, ◌≤◌, cond, ltb, ◌⊎◌, sym, ap, ◌∙◌, subst, inl, inr, mod-eq_of_lt, mul_comm, add-mul, mul-pos, mul-add, arith}
 use native.Mathlib.Nat.{add-mod, add-mul-mod_self_left, div-add-mod}
 use Rattle.std.proofs.lemmas.Bool.{cases_lt, cond-true, cond-false, lt-ltb, le-ltb}
 use Rattle.std.proofs.lemmas.Nat.{div-add-mod', div-mul-add, mod-mul-add, div_below, mod_below, mul-add-lt}
 use Rattle.interleave.specs.Factors.{smallest_apart}
-use Rattle.interleave.specs.Places.{Steps, row_to, column_to, first_step, place_by, steps_of}
+use Rattle.interleave.specs.Places.{Steps, column_to, first_step, place_by, steps_of}
 use Rattle.interleave.specs.Interleavings.{goes_to}
 use Rattle.interleave.specs.Walks.{stepping, At}
 

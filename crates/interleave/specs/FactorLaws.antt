@@ -1,7 +1,7 @@
 -- Numbers without a common factor: one of them may be cancelled modulo the other.
 use Rattle.std.specs.Prelude.{◌≡◌, ℕ, zero, suc, ◌+◌, ◌-◌, ◌*◌, ◌/◌, ◌%◌, ◌<◌, ◌≤◌, ◌⊎◌, ◌≢◌, refl}
-use Rattle.std.proofs.Common.{sym, ap, ◌∙◌, inl, inr, arith, mod-eq_of_lt, add-mul, mul-add, mul_comm, mul_assoc, div-add-mod', mul-le-mul_left}
-use Rattle.std.proofs.Math.Nat.{zero-mod, mod-zero, mod_self, mod-one, add-mod, mul-sub, mul-mod_left, mul-mod_right, add-mul-mod_self_left, div-add-mod, eq_of_mul-eq-mul_left}
+use Rattle.std.proofs.Common.{sym, ap, ◌∙◌, inl, inr, arith, mod-eq_of_lt, add-mul, mul_comm, mul_assoc, mul-le-mul_left}
+use Rattle.std.proofs.Math.Nat.{zero-mod, mod_self, mod-one, add-mod, mul-sub, mul-mod_right, add-mul-mod_self_left, div-add-mod, eq_of_mul-eq-mul_left}
 use Rattle.std.proofs.lemmas.Bool.{cases_lt, cases_eq}
 use Rattle.interleave.specs.Factors.{Divides, NoCommonFactor}
 

@@ -1,9 +1,9 @@
 -- The bits of a block go one-to-one to its places.
-use Rattle.std.specs.Prelude.{◌≡◌, ℕ, ◌+◌, ◌*◌, ◌/◌, ◌%◌, ◌<◌, ◌≤◌, refl}
-use Rattle.std.proofs.Common.{sym, ap, subst, ◌∙◌, arith, mul_comm}
+use Rattle.std.specs.Prelude.{◌≡◌, ℕ, ◌+◌, ◌*◌, ◌/◌, ◌%◌, ◌<◌}
+use Rattle.std.proofs.Common.{sym, ap, subst, ◌∙◌, mul_comm}
 use Rattle.std.proofs.lemmas.Nat.{div-add-mod', div-mul-add, mod-mul-add, div_below, mod_below, mul-add-lt}
 use Rattle.interleave.specs.Factors.{NoCommonFactor}
-use Rattle.interleave.specs.Places.{Steps, row_to, column_to, place_by, steps_of, first_step, OneToOne, PlacesOneToOne, BlockOneToOne}
+use Rattle.interleave.specs.Places.{Steps, row_to, column_to, steps_of, first_step, PlacesOneToOne, BlockOneToOne}
 use Rattle.interleave.specs.FactorLaws.{cancels_after}
 use Rattle.interleave.specs.SearchLaws.{finds_the_smallest}
 

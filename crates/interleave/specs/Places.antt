@@ -1,5 +1,5 @@
 -- Where the interleaver puts the bits of a block of n rows of m.
-use Rattle.std.specs.Prelude.{◌≡◌, ℕ, ◌+◌, ◌*◌, ◌/◌, ◌%◌, ◌<◌, ◌≤◌}
+use Rattle.std.specs.Prelude.{◌≡◌, ℕ, ◌+◌, ◌*◌, ◌/◌, ◌%◌, ◌<◌}
 use Rattle.interleave.specs.Factors.{NoCommonFactor, smallest_apart}
 
 -- The four numbers by which rows and columns are stepped through.

@@ -1,5 +1,5 @@
 -- A walk through the bits of a list of blocks, one by one.
-use Rattle.std.specs.Prelude.{◌≡◌, ℕ, ◌+◌, ◌*◌, ◌/◌, ◌%◌}
+use Rattle.std.specs.Prelude.{◌≡◌, ℕ, ◌*◌, ◌/◌, ◌%◌}
 use Rattle.interleave.specs.Places.{Steps, row_to, column_to}
 
 -- Four numbers as the steps of a block.

@@ -9,7 +9,6 @@ use Rattle.stage.proofs.Differences.{difference_found, no_difference_from_itself
 use Rattle.stage.specs.Lists.{same_by_places}
 use Rattle.codings.specs.Checks.{checking}
 use Rattle.codings.specs.CheckLaws.{length_legal}
-use Rattle.packing.specs.Bits.{part}
 use Rattle.packing.specs.Faults.{first_fault, parts_fault, zeros_fault}
 use Rattle.packing.specs.Packings.{fault_in, header_word, padding}
 use Rattle.packing.proofs.WordLaws.{guess_legal, guess_of_front, length_checked}

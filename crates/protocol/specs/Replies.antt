@@ -1,7 +1,6 @@
 -- What each line is answered.
 use Rattle.std.specs.Prelude.{ℕ, ◌-◌, Bool, cond, not, ◌&&◌, List, [], ◌∷◌, length, take, Some, None, Ok, Err, codes, Option, Result, ◌==◌, slice_index}
 use Rattle.frame.specs.Answers.{size_answer}
-use Rattle.frame.specs.declared.headers.Header.{Header}
 use Rattle.frame.specs.declared.refusals.Refusal.{Refusal}
 use Rattle.frame.specs.Refusals.{number_of}
 use Rattle.protocol.specs.Calls.{read_header, skipped, then_read}

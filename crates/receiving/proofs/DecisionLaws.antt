@@ -1,6 +1,6 @@
 -- The two decisions of a receiver are exact: they give a header and a payload exactly if the cells are
 -- theirs. From what the chains carry, and from nothing of their codings.
-use Rattle.std.proofs.Common.{◌≡◌, ℕ, ◌*◌, ◌<◌, ◌≤◌, true, List, length, drop, Some, None, Ok, Err, Option, Result, sym, refl, ap, ◌∙◌, subst, arith}
+use Rattle.std.proofs.Common.{◌≡◌, ℕ, ◌*◌, true, List, length, drop, Some, None, Ok, Err, Option, Result, sym, refl, ap, ◌∙◌, arith}
 use Rattle.stage.specs.declared.faults.ChainFault.{ChainFault}
 use Rattle.stage.specs.Model.{coding, decoding}
 use Rattle.stage.specs.Plain.{within}
@@ -12,12 +12,11 @@ use Rattle.packing.specs.Bits.{header_bits, header_from}
 use Rattle.packing.proofs.HeaderBits.{header_bits_from, header_from_legal}
 use Rattle.chains.specs.Chains.{header_chain, payload_chain}
 use Rattle.rows.specs.Carriers.{gathered, highest_phase, is_reference, row_at}
-use Rattle.rows.specs.Rows.{Frame, HeaderCells, header_cells, last_header_row, payload_reference}
+use Rattle.rows.specs.Rows.{Frame, HeaderCells, header_cells}
 use Rattle.rows.proofs.ChainLaws.{header_bits_legal, reference_carries, row_carries}
 use Rattle.rows.proofs.CarryLaws.{carried_legal, coded_is_decoded, coding_long, coding_phases, decoded_is_coded, legal_carried}
-use Rattle.receiving.specs.declared.refusals.FeedRefusal.{FeedRefusal}
 use Rattle.receiving.specs.Decisions.{header_decision, header_unless, header_verdict, payload_decision, payload_verdict}
-use Rattle.receiving.proofs.Exactness.{Exact, OnLive}
+use Rattle.receiving.proofs.Exactness.{Exact}
 
 unless_ok : (e : Option Refusal) (k h : Header) → header_unless e k ≡ Ok h → (e ≡ None) × (k ≡ h)
 unless_ok None k h q = (refl, (cc))

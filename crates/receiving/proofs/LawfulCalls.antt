@@ -7,7 +7,7 @@ use Rattle.receiving.specs.declared.refusals.FeedRefusal.{FeedRefusal}
 use Rattle.receiving.specs.declared.refusals.TakeRefusal.{TakeRefusal}
 use Rattle.receiving.specs.declared.refusals.TakeRefusal.TheVariants.{NoFrame, TooShort}
 use Rattle.receiving.specs.Calls.{LawfulFeed, LawfulTake, TakeMeans}
-use Rattle.receiving.specs.Histories.{Answer, Call, Complete, Fed, Feed, Handed, RowsUnder, Take, Took, answer, counted, reference_of, run}
+use Rattle.receiving.specs.Histories.{Answer, Call, Complete, Fed, Handed, RowsUnder, Took, counted, reference_of, run}
 use Rattle.receiving.specs.Laws.{Due, Lawful, Tells}
 use Rattle.receiving.specs.Steps.{View, deaf, fed, heading, loading, take_buffer, take_told, taken, whole}
 use Rattle.receiving.proofs.Views.{whole_taken}

@@ -1,14 +1,14 @@
 -- Live cells gathered into buffers, as the payload chain takes them.
-use Rattle.std.proofs.Common.{◌≡◌, ℕ, ◌+◌, ◌-◌, ◌*◌, ◌<◌, ◌≤◌, true, ◌&&◌, eqb, List, ◌++◌, length, take, drop, sym, refl, ap, ◌∙◌, arith}
-use Rattle.std.proofs.lemmas.List.{length-take-le, take_at}
+use Rattle.std.proofs.Common.{◌≡◌, ℕ, ◌+◌, ◌-◌, ◌*◌, ◌≤◌, true, eqb, List, length, take, drop, sym, ap, ◌∙◌, arith}
+use Rattle.std.proofs.lemmas.List.{take_at}
 use Rattle.std.proofs.lemmas.Bool.{and_from, and_parts, eq-eqb, eqb-true}
 use Rattle.stage.specs.Calls.{Holds}
 use Rattle.stage.specs.Plain.{within}
 use Rattle.frame.specs.declared.headers.Header.{Header}
 use Rattle.frame.specs.Answers.{Legal}
-use Rattle.frame.specs.Sizes.{live_carriers, payload_rows, row_count}
+use Rattle.frame.specs.Sizes.{live_carriers, payload_rows}
 use Rattle.chains.specs.Chains.{is_row}
-use Rattle.rows.specs.Carriers.{count_before, gathered, is_reference, kept_from, laid_over, live_cell}
+use Rattle.rows.specs.Carriers.{gathered, is_reference, laid_over, live_cell}
 use Rattle.rows.proofs.CarrierLaws.{gathered_length, gathered_within, kept_length}
 use Rattle.rows.proofs.GatherLaws.{count_few, laid_fits}
 use Rattle.rows.proofs.RowLaws.{legal_tone_map_low}

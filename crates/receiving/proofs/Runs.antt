@@ -8,7 +8,7 @@ use Rattle.rows.specs.Rows.{cells_of, header_rows}
 use Rattle.receiving.specs.declared.refusals.FeedRefusal.{FeedRefusal}
 use Rattle.receiving.specs.Decisions.{header_decision, payload_decision}
 use Rattle.receiving.specs.Histories.{Call, Feed, Start, Take, counted, reference_of, run}
-use Rattle.receiving.specs.Steps.{deaf, fed, headed, heading, loaded, loading, taken, whole, with_header_row, with_payload_row}
+use Rattle.receiving.specs.Steps.{deaf, fed, headed, heading, loaded, loading, taken, with_header_row, with_payload_row}
 use Rattle.receiving.proofs.Counts.{KeptUnder, counted_feed, counted_is_kept, kept_more, same_header}
 use Rattle.receiving.proofs.Holdings.{accepts, hands, header_by, held, holding, holding_behind, was_handed}
 use Rattle.receiving.proofs.Nexts.{Next, decided_legal, fed_in_header, fed_in_payload, holding_decided, in_header, in_payload, legal_rows, next_of}

@@ -4,8 +4,8 @@ use Rattle.std.proofs.lemmas.List.{drop_all, drop_more}
 use Rattle.frame.specs.declared.headers.Header.{Header}
 use Rattle.receiving.specs.declared.refusals.TakeRefusal.{TakeRefusal}
 use Rattle.receiving.specs.declared.refusals.TakeRefusal.TheVariants.{NoFrame, TooShort}
-use Rattle.receiving.specs.Histories.{Answer, Call, Fed, Feed, Start, Started, Take, Took, after, answer, run}
-use Rattle.receiving.specs.Laws.{Due, Lawful}
+use Rattle.receiving.specs.Histories.{Answer, Call, Feed, Start, Take, Took, after, answer, run}
+use Rattle.receiving.specs.Laws.{Lawful}
 use Rattle.receiving.specs.declared.scripts.Step.{Step}
 use Rattle.receiving.specs.Playback.{answers_of, call_of}
 use Rattle.receiving.specs.Scripts.{LawfulAnswer, LawfulAnswers, TookMeans}

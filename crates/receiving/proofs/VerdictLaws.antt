@@ -1,5 +1,5 @@
 -- What the calls of the chains tell the functions that decide.
-use Rattle.std.proofs.Common.{◌≡◌, ℕ, ◌*◌, ◌≤◌, true, not, ◌&&◌, eqb, List, length, take, drop, is_some, Some, None, Ok, Err, Option, Result, sym, refl, ap, ◌∙◌, subst, arith}
+use Rattle.std.proofs.Common.{◌≡◌, ℕ, ◌*◌, ◌≤◌, true, not, eqb, List, length, take, drop, is_some, Some, None, Ok, Err, Option, Result, sym, refl, ap, ◌∙◌, subst, arith}
 use Rattle.std.proofs.lemmas.List.{length-take, take_all}
 use Rattle.std.proofs.lemmas.Bool.{and_parts, eqb-true}
 use Rattle.stage.specs.declared.faults.ChainFault.{ChainFault}
@@ -26,7 +26,6 @@ use Rattle.rows.proofs.CarryLaws.{decoded_is_coded, legal_carried}
 use Rattle.rows.proofs.ChainLaws.{reference_carries}
 use Rattle.receiving.specs.declared.refusals.FeedRefusal.{FeedRefusal}
 use Rattle.receiving.specs.declared.refusals.FeedRefusal.TheVariants.{Fault}
-use Rattle.receiving.specs.declared.refusals.HeaderFault.{HeaderFault}
 use Rattle.receiving.specs.declared.refusals.PayloadFault.{PayloadFault}
 use Rattle.receiving.specs.declared.refusals.ReceiverFault.{ReceiverFault}
 use Rattle.receiving.specs.Decisions.{header_decision, header_unless, header_verdict, in_header, in_payload, payload_decision, payload_verdict}

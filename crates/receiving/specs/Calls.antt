@@ -1,5 +1,5 @@
 -- What the laws of receiving say of one call on a receiver with a history.
-use Rattle.std.specs.Prelude.{◌≡◌, ℕ, ◌<◌, true, false, List, [], ◌∷◌, ◌++◌, length, take, drop, Some, Ok, Err, Result}
+use Rattle.std.specs.Prelude.{◌≡◌, ℕ, ◌<◌, true, false, List, [], ◌∷◌, ◌++◌, take, drop, Some, Ok, Err, Result}
 use Rattle.frame.specs.declared.headers.Header.{Header}
 use Rattle.frame.specs.Answers.{payload}
 use Rattle.receiving.specs.declared.refusals.FeedRefusal.{FeedRefusal}

@@ -10,7 +10,6 @@ use Rattle.packing.specs.Bits.{header_from}
 use Rattle.chains.specs.Chains.{header_chain, payload_chain}
 use Rattle.rows.specs.Carriers.{gathered}
 use Rattle.rows.specs.Rows.{header_cells, payload_reference}
-use Rattle.receiving.specs.declared.refusals.Part.{Part}
 use Rattle.receiving.specs.declared.refusals.Part.TheVariants.{Header as HeaderPart, Payload as PayloadPart}
 use Rattle.receiving.specs.declared.refusals.ReceiverFault.{ReceiverFault}
 use Rattle.receiving.specs.declared.refusals.FeedRefusal.{FeedRefusal}

@@ -14,7 +14,7 @@ use Rattle.receiving.specs.declared.refusals.FeedRefusal.{FeedRefusal}
 use Rattle.receiving.specs.declared.refusals.FeedRefusal.TheVariants.{NotListening, Row, Fault, Header as BadHeader}
 use Rattle.receiving.specs.declared.refusals.TakeRefusal.TheVariants.{NoFrame, TooShort}
 use Rattle.receiving.specs.Decisions.{in_header, in_payload}
-use Rattle.receiving.specs.Histories.{Answer, Call, Complete, Fed, Feed, Handed, Start, Started, Take, Took, answer, counted, fits_next, header_of, listens, reference_of, run}
+use Rattle.receiving.specs.Histories.{Call, Complete, Fed, Feed, Handed, Start, Started, Take, Took, answer, counted, fits_next, header_of, listens, reference_of, run}
 use Rattle.receiving.specs.Steps.{View, fed, fresh, start_answer, started, taken}
 
 -- A frame is due to a take: the counted rows are those of the frame, the room is enough, and no

@@ -1,5 +1,5 @@
 -- Reading a recording: cells of rows, one behind the other, and how many rows were read.
-use Rattle.std.specs.Prelude.{◌≡◌, ℕ, ◌+◌, ◌-◌, ◌*◌, cond, List, length, Some, None, Ok, Err, Option, Result, ◌==◌, nat_lt}
+use Rattle.std.specs.Prelude.{ℕ, ◌+◌, ◌-◌, ◌*◌, cond, List, length, Some, None, Ok, Err, Option, Result, ◌==◌, nat_lt}
 use Rattle.rows.specs.Carriers.{carriers, row_at}
 use Rattle.receiving.specs.declared.recordings.RecordRefusal.{RecordRefusal}
 use Rattle.receiving.specs.declared.recordings.RecordRefusal.TheVariants.{Short}

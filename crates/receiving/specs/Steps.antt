@@ -1,5 +1,5 @@
 -- What each call of a receiver answers, and what the receiver holds afterwards.
-use Rattle.std.specs.Prelude.{◌≡◌, ℕ, ◌+◌, ◌-◌, ◌*◌, cond, List, [], ◌++◌, length, drop, Ok, Err, Result, nat_lt}
+use Rattle.std.specs.Prelude.{ℕ, ◌+◌, ◌-◌, cond, List, [], ◌++◌, length, drop, Ok, Err, Result, nat_lt}
 use Rattle.frame.specs.declared.headers.Header.{Header}
 use Rattle.frame.specs.Sizes.{payload_rows, row_count}
 use Rattle.rows.specs.Carriers.{is_reference, row_fits}

@@ -1,5 +1,5 @@
 -- What the calls of the stage that puts parity behind a message leave is its coding, or its fault.
-use Rattle.std.proofs.Common.{◌≡◌, ℕ, ◌+◌, ◌-◌, ◌*◌, ◌<◌, ◌≤◌, max, true, ◌⊎◌, List, ◌++◌, map, length, get_or, take, Some, Ok, Err, sym, refl, ap, ◌∙◌, subst, inl, inr, arith}
+use Rattle.std.proofs.Common.{◌≡◌, ℕ, ◌+◌, ◌-◌, ◌*◌, ◌<◌, ◌≤◌, max, true, ◌⊎◌, List, ◌++◌, map, length, get_or, take, Some, Ok, Err, sym, ap, ◌∙◌, inl, inr, arith}
 use borrow.Rule.Slice.PartMut.{put_mid}
 use Rattle.std.proofs.lemmas.List.{length-append, length-take, length-take-le, get_or-take, get_or_append_left, get_or-append_right, take-take}
 use Rattle.std.proofs.lemmas.Slice.{take-put_mid}
@@ -13,7 +13,7 @@ use Rattle.stage.specs.Lists.{within_from}
 use Rattle.codings.specs.Agreement.{AgreesUpTo}
 use Rattle.codings.specs.AgreementLaws.{agrees_wholly_accepts, agrees_partly_refuses}
 use Rattle.reedsolomon.specs.Codes.{known_strength, parity, with_parity}
-use Rattle.reedsolomon.specs.Words.{longest_word, message_length, nearest_byte, words, Agreeing}
+use Rattle.reedsolomon.specs.Words.{message_length, nearest_byte, words, Agreeing}
 use Rattle.reedsolomon.specs.WordLaws.{message_length_is, word_length_legal, legal_is, length_parity, bytes_are_nearest, words_sound}
 
 -- the room of a legal list holds its parity too

@@ -1,7 +1,7 @@
 -- Doubling and adding gives the product.
-use Rattle.std.proofs.Common.{◌≡◌, ℕ, zero, suc, ◌+◌, ◌-◌, ◌*◌, ◌/◌, ◌%◌, ◌^◌, ◌<◌, Bool, true, false, cond, eqb, ltb, sym, refl, ap, ◌∙◌, subst, ap₂, arith}
+use Rattle.std.proofs.Common.{◌≡◌, ℕ, zero, suc, ◌-◌, ◌*◌, ◌/◌, ◌%◌, ◌<◌, true, cond, eqb, ltb, sym, refl, ap, ◌∙◌, subst, ap₂, arith}
 use lib.Bits.{bit_xor, xor_comm, xor_assoc, xor_shifted, xor_zero_r}
-use Rattle.std.proofs.lemmas.Bool.{eqb-true, lt-ltb, eq-eqb, ne_eqb, cond-true}
+use Rattle.std.proofs.lemmas.Bool.{eqb-true, lt-ltb, cond-true}
 use Rattle.reedsolomon.specs.Fields.{field_size, polynomial_product, field_remainder, product, doubled, lowest_times, Multiplying}
 use Rattle.reedsolomon.specs.SpanLaws.{all, all_holds}
 use Rattle.reedsolomon.specs.LinearLaws.{product_right, product_zero}

@@ -1,7 +1,6 @@
 -- The two generators, and that every code word is 0 at their roots.
-use Rattle.std.specs.Prelude.{◌≡◌, ℕ, zero, suc, ◌+◌, ◌*◌, ◌<◌, ◌≤◌, Bool, true, ◌&&◌, ◌⊎◌, List, [], ◌∷◌, ◌++◌, length, take, ◌==◌, bit_xor, nat_eq, nat_le, refl}
+use Rattle.std.specs.Prelude.{◌≡◌, ℕ, zero, suc, ◌*◌, ◌<◌, ◌≤◌, true, ◌⊎◌, List, [], ◌∷◌, ◌++◌, length, take, ◌==◌, bit_xor, nat_eq, nat_le, refl}
 use Rattle.std.proofs.Common.{sym, ap, ap₂, subst, ◌∙◌, inl, inr, arith}
-use Rattle.std.specs.Int.Bits.{xor_self}
 use Rattle.std.proofs.lemmas.Nat.{xor_lt}
 use Rattle.std.proofs.lemmas.List.{length-append}
 use Rattle.std.proofs.lemmas.Bool.{or_cases, eqb-true, and_parts, leb-true}
@@ -9,7 +8,7 @@ use Rattle.stage.specs.Plain.{within}
 use Rattle.codings.specs.Polynomials.{sum, zeros, monic}
 use Rattle.codings.specs.PolynomialLaws.{length_zeros}
 use Rattle.reedsolomon.specs.Fields.{field_size, polynomial_product, field_remainder, product, alpha, power}
-use Rattle.reedsolomon.specs.Codes.{scaled, times, generator, value, value_from, known_strength, lower, with_parity, CodeWord, ParityLaw}
+use Rattle.reedsolomon.specs.Codes.{scaled, times, generator, value, value_from, known_strength, lower, CodeWord, ParityLaw}
 use Rattle.reedsolomon.specs.Words.{generator_table}
 use Rattle.reedsolomon.specs.SpanLaws.{all, all_holds}
 use Rattle.reedsolomon.specs.LinearLaws.{interchange, product_left, product_right, zero_product, product_zero}

@@ -1,5 +1,5 @@
 -- The stage that puts parity behind a message: its lengths, its guess, and what its calls leave.
-use Rattle.std.specs.Prelude.{◌≡◌, ℕ, ◌+◌, ◌-◌, ◌*◌, ◌<◌, ◌≤◌, min, cond, ◌&&◌, List, [], ◌∷◌, ◌++◌, map, length, take, Some, None, Ok, Err, Option, Result, ◌==◌, ◌≢◌, bit_xor, nat_le, slice_index}
+use Rattle.std.specs.Prelude.{◌≡◌, ℕ, ◌+◌, ◌-◌, ◌*◌, ◌<◌, ◌≤◌, min, cond, ◌&&◌, List, [], ◌∷◌, map, length, take, Some, None, Ok, Err, Option, Result, ◌==◌, ◌≢◌, bit_xor, nat_le, slice_index}
 use Rattle.stage.specs.declared.faults.StageFault.{StageFault}
 use Rattle.stage.specs.declared.faults.Refusal.{Refusal}
 use Rattle.stage.specs.declared.faults.Refusal.TheVariants.{Setting}

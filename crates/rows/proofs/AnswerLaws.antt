@@ -1,21 +1,18 @@
 -- What the calls on the two chains answer, where the chains can be made.
-use Rattle.std.proofs.Common.{◌≡◌, ℕ, ◌*◌, ◌≤◌, true, cond, ◌&&◌, eqb, List, length, Ok, Err, Result, sym, refl, ap, ◌∙◌, subst, arith}
+use Rattle.std.proofs.Common.{◌≡◌, ℕ, ◌*◌, ◌≤◌, true, cond, List, length, Ok, Err, ap, ◌∙◌}
 use Rattle.std.proofs.lemmas.Bool.{and_from, eq-eqb}
 use Rattle.stage.specs.Calls.{code_answer, counted, decode_answer}
-use Rattle.stage.specs.Model.{Model, decoding}
+use Rattle.stage.specs.Model.{decoding}
 use Rattle.stage.specs.Plain.{within}
-use Rattle.stage.specs.declared.faults.Refusal.{Refusal}
 use Rattle.stage.specs.declared.faults.Refusal.TheVariants.{Setting}
 use Rattle.frame.specs.declared.headers.Header.{Header}
-use Rattle.frame.specs.Answers.{Legal, payload, size_answer, unless_refused}
+use Rattle.frame.specs.Answers.{Legal, payload, unless_refused}
 use Rattle.frame.specs.Sizes.{live_carriers, payload_rows, row_count}
 use Rattle.packing.specs.Bits.{header_bits}
 use Rattle.chains.specs.Calls.{by_chain, code_header_answer, code_payload_answer, decode_header_answer, decode_payload_answer, made_payload_chain, on_header, on_payload, payload_chain_sized}
 use Rattle.chains.specs.Chains.{header_chain, is_row, payload_chain}
-use Rattle.chains.specs.declared.refusals.ChainRefusal.{ChainRefusal}
 use Rattle.chains.specs.declared.refusals.ChainRefusal.TheVariants.{Reference}
 use Rattle.rows.specs.Carriers.{gathered, is_reference}
-use Rattle.rows.proofs.CarrierLaws.{gathered_length, gathered_within}
 use Rattle.rows.proofs.CarryLaws.{carried_legal, code_told, decode_told}
 use Rattle.rows.proofs.ChainLaws.{header_bits_legal, reference_carries, row_carries, row_gathered}
 

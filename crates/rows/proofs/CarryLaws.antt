@@ -1,13 +1,11 @@
 -- What a chain that carries lists of one length does with them, from its promise alone.
-use Rattle.std.proofs.Common.{◌≡◌, ℕ, ◌≤◌, true, cond, List, length, Some, Ok, Err, Option, sym, refl, ap, ◌∙◌, subst, arith}
+use Rattle.std.proofs.Common.{◌≡◌, ℕ, ◌≤◌, true, List, length, Some, Ok, Err, Option, sym, ap, ◌∙◌, arith}
 use Rattle.std.proofs.lemmas.Bool.{cond-true}
-use Rattle.stage.specs.declared.faults.ChainFault.{ChainFault}
 use Rattle.stage.specs.declared.faults.Refusal.TheVariants.{TooShort, Illegal, Misfit}
 use Rattle.stage.specs.Calls.{code_answer, counted, decode_answer}
 use Rattle.stage.specs.Lengths.{roomy}
-use Rattle.stage.specs.Model.{Model, code_room, coded_length, coding, decode_room, decoding, fits, legal, puts, takes}
+use Rattle.stage.specs.Model.{Model, code_room, coded_length, coding, decode_room, decoding, fits, legal}
 use Rattle.stage.specs.Plain.{within}
-use Rattle.stage.specs.Promise.{Codes, Promise}
 use Rattle.stage.proofs.Calling.{roomy_enough}
 use Rattle.stage.specs.Legality.{legal_from_parts, legal_length, legal_within}
 use Rattle.stage.specs.Lists.{some_is_there, value_of_some}

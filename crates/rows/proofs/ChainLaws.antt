@@ -1,5 +1,5 @@
 -- The two chains as the rows of a frame use them.
-use Rattle.std.proofs.Common.{◌≡◌, ℕ, ◌*◌, true, ◌&&◌, eqb, List, length, ◌∙◌, arith}
+use Rattle.std.proofs.Common.{◌≡◌, ℕ, ◌*◌, true, eqb, List, length, ◌∙◌, arith}
 use Rattle.std.proofs.lemmas.Bool.{and_parts, eqb-true}
 use Rattle.stage.specs.Model.{legal}
 use Rattle.stage.specs.Plain.{within}

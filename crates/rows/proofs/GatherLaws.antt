@@ -1,9 +1,9 @@
 -- Keeping cells one after the other, and laying lists over buffers.
-use Rattle.std.proofs.Common.{◌≡◌, ℕ, zero, suc, ◌+◌, ◌-◌, ◌*◌, ◌/◌, ◌%◌, ◌<◌, ◌≤◌, Bool, true, false, cond, ◌&&◌, leb, List, [], ◌∷◌, ◌++◌, length, get_or, take, drop, set, sym, refl, ap, ◌∙◌, arith, length-append, length-take, take_all}
+use Rattle.std.proofs.Common.{◌≡◌, ℕ, zero, suc, ◌+◌, ◌%◌, ◌<◌, ◌≤◌, Bool, true, false, cond, List, [], ◌∷◌, ◌++◌, length, get_or, take, drop, set, sym, refl, ap, ◌∙◌, arith, length-take, take_all}
 use Rattle.std.proofs.lemmas.List.{take_more, length_push}
 use Rattle.std.proofs.lemmas.List.Edits.{fill_by_more}
 use Rattle.std.proofs.lemmas.List.FromFn.{fill_by_all}
-use Rattle.rows.specs.Carriers.{cells_fit, count_before, gathered, highest_on, kept_from, laid_over, live_cell, spread, spread_cell}
+use Rattle.rows.specs.Carriers.{count_before, gathered, kept_from, laid_over, live_cell, spread, spread_cell}
 
 -- The list with an element behind it if that is kept.
 abbrev pub with_kept : Bool → List ℕ → ℕ → List ℕ

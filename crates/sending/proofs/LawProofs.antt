@@ -1,10 +1,10 @@
 -- Begun and finished rows are the frame's.
-use Rattle.std.proofs.Common.{◌≡◌, ℕ, ◌<◌, ◌≤◌, Bool, true, false, cond, eqb, ltb, List, ◌++◌, length, drop, Some, None, Ok, Err, Option, Result, sym, refl, ap, ◌∙◌, subst, arith}
+use Rattle.std.proofs.Common.{◌≡◌, ℕ, ◌≤◌, Bool, true, false, cond, eqb, ltb, List, ◌++◌, length, drop, Some, None, Ok, Option, sym, refl, ap, ◌∙◌, subst, arith}
 use Rattle.std.proofs.lemmas.Bool.{eqb-true, ltb-false}
 use Rattle.stage.specs.Plain.{within}
 use Rattle.frame.specs.declared.headers.Header.{Header}
 use Rattle.frame.specs.declared.refusals.Refusal.{Refusal}
-use Rattle.frame.specs.Answers.{Legal, payload, refusal}
+use Rattle.frame.specs.Answers.{payload, refusal}
 use Rattle.rows.specs.Carriers.{is_reference}
 use Rattle.sending.specs.declared.refusals.BeginRefusal.{BeginRefusal}
 use Rattle.sending.specs.declared.refusals.BeginRefusal.TheVariants.{Reference, TooShort}

@@ -1,5 +1,5 @@
 -- What is sent are the rows of the frame, from what the chains carry.
-use Rattle.std.proofs.Common.{◌≡◌, ℕ, ◌+◌, ◌*◌, ◌≤◌, true, List, [], ◌∷◌, ◌++◌, length, take, drop, sym, refl, ap, ◌∙◌, subst, append_assoc, arith, length-append, length-drop, take_all, take_at, drop_at}
+use Rattle.std.proofs.Common.{◌≡◌, ℕ, ◌*◌, ◌≤◌, true, List, ◌++◌, length, take, drop, sym, ap, ◌∙◌, subst, append_assoc, arith, length-append, length-drop, take_at, drop_at}
 use Rattle.std.proofs.lemmas.Slice.{drop-append-drop}
 use Rattle.stage.specs.Model.{coding}
 use Rattle.stage.specs.Plain.{within}
@@ -9,7 +9,7 @@ use Rattle.frame.specs.Sizes.{live_carriers, payload_rows, row_count}
 use Rattle.packing.specs.Bits.{header_bits}
 use Rattle.chains.specs.Chains.{header_chain, payload_chain}
 use Rattle.rows.specs.Carriers.{Silent, count_before, gathered, is_reference, live_cell, row_at, rows_in, spread}
-use Rattle.rows.specs.Rows.{RowsOf, cells_of, header_cells, payload_reference}
+use Rattle.rows.specs.Rows.{RowsOf, cells_of, payload_reference}
 use Rattle.rows.proofs.CarrierLaws.{count_rows, gathered_spread, spread_long, spread_silent}
 use Rattle.rows.proofs.ChainLaws.{header_bits_legal, reference_carries, row_carries}
 use Rattle.rows.proofs.CarryLaws.{carried_legal, coding_long, coding_phases}

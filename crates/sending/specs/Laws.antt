@@ -1,5 +1,5 @@
 -- The law of sending: what is begun and finished are the rows of the frame.
-use Rattle.std.specs.Prelude.{◌≡◌, ℕ, ◌*◌, true, List, length, drop, Ok, Err, Result}
+use Rattle.std.specs.Prelude.{◌≡◌, ℕ, true, List, length, drop, Ok, Err, Result}
 use Rattle.stage.specs.Plain.{within}
 use Rattle.frame.specs.declared.headers.Header.{Header}
 use Rattle.frame.specs.Sizes.{row_count}

@@ -1,5 +1,5 @@
 -- Two members that do not fit.
-use Rattle.std.proofs.Common.{◌≡◌, ℕ, ◌+◌, Bool, false, ◌&&◌, leb, List, length, is_some, refl}
+use Rattle.std.proofs.Common.{◌≡◌, ◌+◌, false, ◌&&◌, leb, length, is_some}
 use Rattle.std.proofs.lemmas.Bool.{and_left, and_right, cond-false}
 use Rattle.stage.specs.Plain.{within}
 use Rattle.stage.specs.Model.{Model, pile, fits, takes, puts, members, most_members, coded_length}

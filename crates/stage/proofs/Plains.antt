@@ -1,15 +1,15 @@
 -- A plain stage keeps the promise if what its author wrote down is sound.
-use Rattle.std.proofs.Common.{◌≡◌, ℕ, ◌+◌, ◌<◌, ◌≤◌, true, ◌⊎◌, List, [], ◌∷◌, length, get_or, take, Some, None, Ok, Err, Option, Result, sym, refl, ap, ◌∙◌, subst, inl, inr, arith}
+use Rattle.std.proofs.Common.{◌≡◌, ℕ, ◌+◌, ◌<◌, true, List, [], ◌∷◌, length, get_or, take, Some, None, Ok, Err, Option, sym, refl, ap, ◌∙◌, subst, inl, inr, arith}
 use Rattle.std.proofs.lemmas.List.{get_or-take}
 use Rattle.stage.specs.declared.faults.ChainFault.{ChainFault}
 use Rattle.stage.specs.Faults.{fault_at}
-use Rattle.stage.specs.Plain.{Plain, within, first_difference, settled, judged}
+use Rattle.stage.specs.Plain.{Plain, first_difference, settled, judged}
 use Rattle.stage.specs.Model.{plain, legal, decoding}
-use Rattle.stage.specs.Promise.{Promise, Codes, SharesFront, NoSuchLength, Place, Refuses, Passes, Stops}
+use Rattle.stage.specs.Promise.{Promise, Codes, SharesFront, NoSuchLength, Place, Refuses, Stops}
 use Rattle.stage.specs.Sound.{Sound}
 use Rattle.stage.specs.Lists.{some_is_there}
 use Rattle.stage.specs.Legality.{legal_from_parts}
-use Rattle.stage.proofs.Differences.{DifferAt, no_difference_from_itself, no_difference_means_same, difference_tells, difference_found}
+use Rattle.stage.proofs.Differences.{no_difference_from_itself, no_difference_means_same, difference_tells, difference_found}
 
 -- a received list that has the length of some coding is judged by the guess
 judged_by_guess : (p : Plain) (ys : List ℕ) (n : ℕ) → p.message_length (length ys) ≡ Some n → decoding (plain p) ys ≡ settled p.number (p.guess n ys) (first_difference (p.coding (p.guess n ys)) ys)

@@ -1,12 +1,12 @@
 -- Decoding a pile: how the members' answers make the pile's, and what a fault tells.
 use Rattle.std.specs.Prelude.{◌≡◌, ℕ, zero, suc, ◌+◌, ◌<◌, ◌⊎◌, List, [], ◌∷◌, ◌++◌, length, Some, None, Ok, Err, Option, Result, refl}
-use Rattle.std.proofs.Common.{sym, ap, subst, ◌∙◌, inl, inr, add-zero, add-suc, arith, length-append}
+use Rattle.std.proofs.Common.{sym, ap, subst, inl, inr, add-zero, add-suc, arith, length-append}
 use Rattle.stage.specs.declared.faults.StageFault.{StageFault}
 use Rattle.stage.specs.declared.faults.ChainFault.{ChainFault}
 use Rattle.stage.specs.Faults.{deeper_by, fault_at}
 use Rattle.stage.specs.Plain.{Plain, first_difference, settled, judged}
 use Rattle.stage.specs.Model.{Model, plain, pile, members, deepened, inward, decoding}
-use Rattle.stage.specs.Promise.{Codes, Refuses, Passes, Stops, from_the_line}
+use Rattle.stage.specs.Promise.{Passes, Stops, from_the_line}
 
 -- a pile accepts if both members do, the second's list being what the first is given
 pub record BothAccept (ms : List ℕ) (second : Result (List ℕ) ChainFault) (first : List ℕ → Result (List ℕ) ChainFault) (xs : List ℕ) : Type 0 where

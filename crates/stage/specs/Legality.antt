@@ -1,6 +1,6 @@
 -- Legal lists: of a stage, and of a pile by those of its members.
-use Rattle.std.specs.Prelude.{◌≡◌, ℕ, ◌+◌, ◌≤◌, Bool, true, ◌&&◌, List, length, is_some, Some, None, Option, nat_le, refl}
-use Rattle.std.proofs.Common.{sym, ap, subst, ◌∙◌}
+use Rattle.std.specs.Prelude.{◌≡◌, ℕ, ◌+◌, ◌≤◌, true, ◌&&◌, List, length, is_some, Some, None, Option, nat_le, refl}
+use Rattle.std.proofs.Common.{sym, ap, ◌∙◌}
 use Rattle.std.proofs.lemmas.Bool.{and_parts, and_from, leb-true}
 use Rattle.stage.specs.Lengths.{through}
 use Rattle.stage.specs.Plain.{within}

@@ -1,8 +1,8 @@
 -- Alphabets, fronts of buffers, and answers that may be missing.
-use Rattle.std.specs.Prelude.{◌≡◌, ℕ, zero, suc, ◌+◌, ◌<◌, ◌≤◌, min, Bool, true, false, cond, ◌&&◌, List, [], ◌∷◌, ◌++◌, length, drop, is_some, Some, None, Option, nat_le, slice_index, refl}
+use Rattle.std.specs.Prelude.{◌≡◌, ℕ, zero, suc, ◌+◌, ◌<◌, ◌≤◌, true, false, ◌&&◌, List, [], ◌∷◌, length, drop, is_some, Some, None, Option, nat_le, slice_index, refl}
 use Rattle.std.proofs.Common.{sym, ap, ◌∙◌, arith}
-use Rattle.std.proofs.lemmas.List.{at_drop_more, at_drop_all, take_at, drop_at, length-take, length-drop, ext_get_or, get_or-take}
-use Rattle.std.proofs.lemmas.Bool.{and_parts, and_from, leb-true, le-leb, and_left}
+use Rattle.std.proofs.lemmas.List.{at_drop_more, at_drop_all, ext_get_or}
+use Rattle.std.proofs.lemmas.Bool.{and_parts, and_from, leb-true, le-leb, lt-leb}
 use Rattle.stage.specs.Plain.{within}
 
 -- an answer that is there has a value
@@ -42,20 +42,16 @@ within_from high (x ∷ xs) h =
 pub within_step : (high : ℕ) (xs : List ℕ) (i : ℕ) → i < length xs → within high (drop i xs) ≡ (nat_le (slice_index xs i) high && within high (drop (i + 1) xs))
 within_step high xs i l = at_drop_more (within high) xs i 0 l
 
-and_group : (a b c : Bool) → ((a && b) && c) ≡ (a && (b && c))
-and_group true b c = refl
-and_group false b c = refl
+pub within_passes : (high : ℕ) (xs : List ℕ) (i : ℕ) → i < length xs → slice_index xs i ≤ high → within high (drop i xs) ≡ within high xs → within high (drop (i + 1) xs) ≡ within high xs
+within_passes high xs i l small inv =
+    sym (within_step high xs i l ∙ ap (λ b. b && within high (drop (i + 1) xs)) (le-leb (slice_index xs i) high small)) ∙ inv
 
-and_nothing : (a : Bool) → (a && true) ≡ a
-and_nothing true = refl
-and_nothing false = refl
+pub within_fails : (high : ℕ) (xs : List ℕ) (i : ℕ) → i < length xs → high < slice_index xs i → within high (drop i xs) ≡ within high xs → false ≡ within high xs
+within_fails high xs i l large inv =
+    sym (within_step high xs i l ∙ ap (λ b. b && within high (drop (i + 1) xs)) (lt-leb (slice_index xs i) high large)) ∙ inv
 
-pub within_more : (high : ℕ) (xs : List ℕ) (i : ℕ) (all : Bool) → i < length xs → (all && within high (drop i xs)) ≡ within high xs → ((all && nat_le (slice_index xs i) high) && within high (drop (i + 1) xs)) ≡ within high xs
-within_more high xs i all l inv =
-    and_group all (nat_le (slice_index xs i) high) (within high (drop (i + 1) xs)) ∙ ap (λ b. all && b) (sym (within_step high xs i l)) ∙ inv
-
-pub within_ends : (high : ℕ) (xs : List ℕ) (i : ℕ) (all : Bool) → length xs ≤ i → (all && within high (drop i xs)) ≡ within high xs → all ≡ within high xs
-within_ends high xs i all l inv = sym (and_nothing all) ∙ ap (λ b. all && b) (sym (at_drop_all (within high) xs i l)) ∙ inv
+pub within_ends : (high : ℕ) (xs : List ℕ) (i : ℕ) → length xs ≤ i → within high (drop i xs) ≡ within high xs → true ≡ within high xs
+within_ends high xs i l inv = sym (at_drop_all (within high) xs i l) ∙ inv
 
 -- two lists of one length are equal if they agree at each place
 pub same_by_places : (xs ys : List ℕ) → length xs ≡ length ys → ((i : ℕ) → i < length xs → slice_index xs i ≡ slice_index ys i) → xs ≡ ys

@@ -1,5 +1,5 @@
 -- The meaning of a stage: a plain stage, or a pile of two whose second member is nearer the line.
-use Rattle.std.specs.Prelude.{ℕ, ◌+◌, min, Bool, true, ◌&&◌, List, [], ◌∷◌, ◌++◌, length, is_some, Some, None, Ok, Err, Option, Result, nat_le}
+use Rattle.std.specs.Prelude.{ℕ, ◌+◌, min, Bool, true, ◌&&◌, List, length, is_some, Ok, Err, Option, Result, nat_le}
 use Rattle.stage.specs.declared.faults.ChainFault.{ChainFault}
 use Rattle.stage.specs.declared.outline.Outline.{Outline}
 use Rattle.stage.specs.declared.outline.Span.{Span}

@@ -1,5 +1,5 @@
 -- A pile of two stages that keep the promise and fit keeps it too, and the law of piles.
-use Rattle.std.specs.Prelude.{◌≡◌, ℕ, ◌+◌, ◌≤◌, true, ◌⊎◌, List, ◌++◌, length, Some, None, Ok, Err, Option, Result, refl}
+use Rattle.std.specs.Prelude.{◌≡◌, ℕ, ◌+◌, ◌≤◌, true, List, ◌++◌, length, Some, None, Ok, Err, Option, Result, refl}
 use Rattle.std.proofs.Common.{sym, ap, subst, ◌∙◌, inl, inr, arith}
 use Rattle.stage.specs.declared.faults.StageFault.{StageFault}
 use Rattle.stage.specs.declared.faults.ChainFault.{ChainFault}
@@ -9,7 +9,7 @@ use Rattle.stage.specs.Promise.{Promise, Codes, Passes, Stops, from_the_line}
 use Rattle.stage.specs.Piles.{PileLaw}
 use Rattle.stage.specs.Legality.{Fitting, fitting, legal_first, legal_second, legal_pile}
 use Rattle.stage.specs.Rooms.{code_room_outward, decode_room_inward}
-use Rattle.stage.specs.Decodings.{BothAccept, inward_accepts, FirstRefuses, inward_refuses, depth_below_members, members_in_a_row, passes_both, stops_in_first_row, stops_in_second_row}
+use Rattle.stage.specs.Decodings.{inward_accepts, FirstRefuses, inward_refuses, depth_below_members, members_in_a_row, passes_both, stops_in_first_row, stops_in_second_row}
 
 -- a length behind two stages goes through a length between them
 through_both : (o : Option ℕ) (next : ℕ → Option ℕ) (k : ℕ) → through o next ≡ Some k → (j : ℕ) × ((o ≡ Some j) × (next j ≡ Some k))

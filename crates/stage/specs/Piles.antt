@@ -2,8 +2,7 @@
 use Rattle.std.specs.Prelude.{◌≡◌, ℕ, true, false, List, [], ◌∷◌, ◌++◌, length, Ok, Err, Option}
 use Rattle.stage.specs.declared.faults.ChainFault.{ChainFault}
 use Rattle.stage.specs.Lengths.{longest_with, through}
-use Rattle.stage.specs.Plain.{Plain}
-use Rattle.stage.specs.Model.{Model, plain, pile, members, fits, legal, coding, decoding, coded_length, message_length, code_room, decode_room}
+use Rattle.stage.specs.Model.{Model, plain, pile, members, fits, legal, coding, decoding, coded_length, code_room, decode_room}
 use Rattle.stage.specs.declared.faults.Refusal.TheVariants.{Misfit}
 use Rattle.stage.specs.Calls.{code_answer, decode_answer}
 use Rattle.stage.specs.Promise.{Promise, Codes, Stops, from_the_line}

@@ -4,16 +4,15 @@ ghost use Rattle.std.specs.Prelude.{◌≡◌, ℕ, ◌≤◌, length, take, dro
 ghost use Rattle.stage.specs.Plain.{within};
 
 /// Whether every element of `list` is at most `highest`.
-///
-/// Looks at all of them, so that the machine can compare many at once.
 pub fn all_within(list: &[u8], highest: u8) -> bool
     ensures { result ≡ within highest list.now }
 {
-    let mut all = true;
     for element in list {
-        all &= *element <= highest;
+        if *element > highest {
+            return false;
+        }
     }
-    all
+    true
 }
 
 /// Copies the first `n` elements of `from` to the front of `to`; the rest of `to` is as it was.

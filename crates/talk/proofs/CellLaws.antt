@@ -1,5 +1,5 @@
 -- Text of cells, character by character and row by row.
-use Rattle.std.proofs.Common.{◌≡◌, ℕ, zero, suc, ◌+◌, ◌*◌, ◌<◌, ◌≤◌, true, false, ◌&&◌, List, [], ◌∷◌, ◌++◌, map, length, get_or, take, drop, sym, refl, ap, ◌∙◌, append_assoc, le_of_suc-le-suc, arith}
+use Rattle.std.proofs.Common.{◌≡◌, ℕ, zero, suc, ◌+◌, ◌*◌, ◌<◌, ◌≤◌, true, false, List, [], ◌∷◌, ◌++◌, map, length, get_or, take, drop, sym, ap, ◌∙◌, append_assoc, le_of_suc-le-suc, arith}
 use mathlib.Core.List.{map-append}
 use Rattle.talk.specs.Cells.{all_cells, is_cell, row_of, with_row, with_rows}
 use Rattle.std.proofs.lemmas.List.{at_drop_all, at_drop_more, drop-drop, take_all, take_more}

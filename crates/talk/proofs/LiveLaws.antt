@@ -1,5 +1,5 @@
 -- The live cells of a row, gathered into a buffer that is as long.
-use Rattle.std.proofs.Common.{◌≡◌, ℕ, ◌+◌, ◌≤◌, Bool, true, false, cond, ◌&&◌, eqb, List, [], ◌∷◌, length, take, drop, refl, ap, ◌∙◌, arith}
+use Rattle.std.proofs.Common.{◌≡◌, ℕ, ◌+◌, ◌≤◌, Bool, true, false, cond, eqb, List, [], ◌∷◌, length, take, drop, refl, ap, ◌∙◌, arith}
 use Rattle.rows.proofs.GatherLaws.{laid_fits}
 use Rattle.rows.specs.Carriers.{gathered, is_reference, kept_from, laid_over, live_cell}
 use Rattle.stage.specs.Plain.{within}

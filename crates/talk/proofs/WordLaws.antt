@@ -1,7 +1,7 @@
 -- How the words of a line come one after the other.
 use Rattle.std.proofs.Common.{◌≡◌, ℕ, ◌+◌, ◌<◌, ◌≤◌, Bool, true, false, cond, not, List, [], ◌∷◌, length, get_or, take, drop, Some, None, sym, refl, ap, ◌∙◌, one-add, arith}
 use mathlib.Core.Bool.{beq}
-use Rattle.talk.specs.Words.{at_end, blankness, is_blank, longer, read_word, run, words}
+use Rattle.talk.specs.Words.{blankness, is_blank, longer, read_word, run, words}
 use Rattle.std.proofs.lemmas.Bool.{false≢true}
 use Rattle.std.proofs.lemmas.List.Sums.{prefix_len-drop_all, prefix_len-drop_no, prefix_len-drop_yes}
 use Rattle.std.specs.List.{prefix_len}

@@ -1,7 +1,6 @@
 -- What calls that depend on none before them are answered, and what the end of a line is.
 use Rattle.std.specs.Prelude.{ℕ, ◌-◌, Bool, cond, not, ◌&&◌, List, [], length, take, None, Ok, Err, codes, Option, Result, ◌==◌, slice_index}
 use Rattle.frame.specs.Answers.{size_answer}
-use Rattle.frame.specs.declared.headers.Header.{Header}
 use Rattle.frame.specs.declared.refusals.Refusal.{Refusal}
 use Rattle.frame.specs.Refusals.{number_of}
 use Rattle.talk.specs.Calls.{at_end, read_header, then_read}

@@ -1,4 +1,4 @@
-use Rattle.std.proofs.Common.{sym, ◌∙◌, inl, inr, arith}
+use Rattle.std.proofs.Common.{sym, inl, inr, arith}
 use Rattle.inverter.specs.Marks.{unmarked_is, unmarked, not_unmarked}
 use Rattle.inverter.proofs.mark.unmark.Goals as goal
 use Rattle.inverter.proofs.mark.unmark.Goals.{then-place-length-via-then-place-length, then-place-length-via-else-place-length+then-buffer-length-ne-MARK}

@@ -1,5 +1,3 @@
-use Rattle.std.proofs.Common.{arith, rules}
-use Rattle.protocol.specs.Hexes.{byte_at}
 use Rattle.protocol.proofs.HexLaws.{one_more_byte}
 use Rattle.protocol.proofs.hexes.list_of.Goals as goal
 

@@ -1,5 +1,5 @@
 -- The number so far, and the digits that are left, give what the whole word gives.
-use Rattle.std.proofs.Common.{◌≡◌, ◌<◌, ◌≤◌, drop}
+use Rattle.std.proofs.Common.{◌≡◌, ◌≤◌, drop}
 use Rattle.protocol.specs.Numbers.{number_of}
 use Rattle.protocol.proofs.NumberLaws.{going_on}
 use Rattle.protocol.proofs.numbers.number_of.Given as goal

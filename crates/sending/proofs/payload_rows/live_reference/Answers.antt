@@ -1,4 +1,3 @@
-use Rattle.std.proofs.Common.{rules}
 use Rattle.sending.proofs.CallLaws.{live_cells_held}
 use Rattle.sending.proofs.payload_rows.live_reference.Goals as goal
 

@@ -1,5 +1,3 @@
-use Rattle.std.proofs.Common.{arith, rules}
-use Rattle.talk.specs.Hexes.{byte_at}
 use Rattle.talk.proofs.HexLaws.{one_more_byte}
 use Rattle.talk.proofs.hexes.list_of.Goals as goal
 

@@ -1,5 +1,4 @@
-use Rattle.std.proofs.Common.{◌<◌, sym, refl, ◌∙◌, mod-eq_of_lt, arith}
-use Rattle.std.proofs.lemmas.Nat.{mod_below}
+use Rattle.std.proofs.Common.{sym, refl, ◌∙◌, mod-eq_of_lt, arith}
 use Rattle.interleave.proofs.WalkLaws.{less_end, slide_below, column_on, column_over}
 use Rattle.interleave.proofs.blocks.Block.along.Goals as goal
 

@@ -1,4 +1,4 @@
-use Rattle.std.proofs.Common.{◌≡◌, ◌+◌, ◌-◌, ◌*◌, ◌%◌, ◌<◌, sym, refl, ap, ◌∙◌, mod-eq_of_lt, arith}
+use Rattle.std.proofs.Common.{◌≡◌, ◌+◌, ◌-◌, ◌*◌, ◌%◌, sym, refl, ap, ◌∙◌, mod-eq_of_lt, arith}
 use Rattle.interleave.proofs.WalkLaws.{less_end, turn_below, column_back, column_back_over}
 use Rattle.interleave.proofs.blocks.Block.down.Goals as goal
 

@@ -1,4 +1,4 @@
-use Rattle.std.proofs.Common.{◌*◌, ◌<◌, ◌∙◌, arith}
+use Rattle.std.proofs.Common.{◌*◌, ◌∙◌, arith}
 use Rattle.interleave.specs.Interleavings.{goes_to}
 use Rattle.interleave.specs.Walks.{stepping}
 use Rattle.interleave.proofs.CallLaws.{known_few, known_one_to_one, fetch_more, fetch_all}

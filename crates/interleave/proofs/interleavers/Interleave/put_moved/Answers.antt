@@ -1,4 +1,4 @@
-use Rattle.std.proofs.Common.{◌*◌, ◌<◌, ◌∙◌, arith}
+use Rattle.std.proofs.Common.{◌*◌, ◌∙◌, arith}
 use Rattle.stage.specs.Rooms.{given_fits_code_room}
 use Rattle.stage.specs.Model.{plain}
 use Rattle.interleave.specs.Interleavings.{goes_to, interleaving}

@@ -1,4 +1,4 @@
-use Rattle.std.proofs.Common.{◌≡◌, ℕ, true, List, length, take, sym, ap, ◌∙◌, subst, arith}
+use Rattle.std.proofs.Common.{◌≡◌, ℕ, true, List, length, sym, ap, ◌∙◌, subst, arith}
 use Rattle.stage.specs.declared.outline.Span.{Span}
 use Rattle.stage.specs.Model.{legal, coding}
 use Rattle.stage.specs.Rooms.{given_fits_code_room}

@@ -1,4 +1,4 @@
-use Rattle.std.proofs.Common.{◌≡◌, length, take, Err, sym, ap, ◌∙◌, arith}
+use Rattle.std.proofs.Common.{length, Err, sym, ap, ◌∙◌, arith}
 use Rattle.std.proofs.lemmas.Result.{err_from_is_err_and}
 use Rattle.stage.specs.declared.outline.Span.{Span}
 use Rattle.stage.specs.Model.{decoding}
