@@ -5,8 +5,8 @@ use Rattle.frame.specs.Answers.{refusal}
 use Rattle.frame.specs.Sizes.{row_count}
 use Rattle.rows.specs.Rows.{header_rows}
 use Rattle.receiving.specs.Fronts.{most_rows}
-use Rattle.receiving.specs.declared.phases.Phase.{Phase}
-use Rattle.receiving.specs.declared.phases.Phase.TheVariants.{Deaf, Heading, Loading, Whole}
+use Rattle.receiving.specs.declared.states.Phase.{Phase}
+use Rattle.receiving.specs.declared.states.Phase.TheVariants.{Deaf, Heading, Loading, Whole}
 
 -- The most bytes of a payload's block.
 abbrev pub most_bytes : ℕ

@@ -1,7 +1,7 @@
 -- What a receiver holds, as the calls tell it.
 use Rattle.std.specs.Prelude.{ℕ, List, take}
-use Rattle.receiving.specs.declared.phases.Phase.{Phase}
-use Rattle.receiving.specs.declared.phases.Phase.TheVariants.{Deaf, Heading, Loading, Whole}
+use Rattle.receiving.specs.declared.states.Phase.{Phase}
+use Rattle.receiving.specs.declared.states.Phase.TheVariants.{Deaf, Heading, Loading, Whole}
 use Rattle.receiving.specs.declared.receivers.Receiver.{Receiver}
 use Rattle.receiving.specs.Keeping.{kept, rows_kept}
 use Rattle.receiving.specs.Steps.{View, deaf, heading, loading, whole}

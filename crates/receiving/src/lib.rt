@@ -8,13 +8,13 @@ mod buffers;
 mod decisions;
 mod kept;
 pub mod laws;
-mod phases;
 pub mod playback;
 pub mod receivers;
 pub mod recordings;
 pub mod refusals;
 pub mod scripts;
 mod sizes;
+mod states;
 #[cfg(test)]
 mod tests;
 

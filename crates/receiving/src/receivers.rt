@@ -6,8 +6,8 @@ ghost use Rattle.receiving.specs.Keeping.{rows_kept};
 ghost use Rattle.receiving.specs.Phases.{at_least, bytes_of, fewer_than, legal_behind, most_bytes, rows_of};
 
 use crate::kept::Kept;
-use crate::phases::Phase;
 use crate::sizes::MOST_BYTES;
+use crate::states::Phase;
 use rows::CARRIERS;
 
 mod calls;

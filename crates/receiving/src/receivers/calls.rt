@@ -5,9 +5,9 @@ ghost use Rattle.receiving.specs.Steps.{fed, fresh, start_answer, started, take_
 
 use crate::buffers::{copy_reference, put_front};
 use crate::kept::Kept;
-use crate::phases::Phase;
 use crate::refusals::{FeedRefusal, StartRefusal, TakeRefusal};
 use crate::sizes::MOST_BYTES;
+use crate::states::Phase;
 use frame::Header;
 use rows::{CARRIERS, is_reference, row_fits};
 

@@ -2,15 +2,15 @@
 ghost use Rattle.std.specs.Prelude.{◌≡◌, ℕ, ◌+◌, true, ◌++◌, length};
 ghost use Rattle.frame.specs.Sizes.{payload_rows, row_count};
 ghost use Rattle.rows.specs.Carriers.{carriers, is_reference};
-ghost use Rattle.receiving.specs.declared.phases.Phase.TheVariants.{Heading, Loading};
+ghost use Rattle.receiving.specs.declared.states.Phase.TheVariants.{Heading, Loading};
 ghost use Rattle.receiving.specs.Keeping.{kept, rows_kept};
 ghost use Rattle.receiving.specs.Receivers.{view};
 ghost use Rattle.receiving.specs.Steps.{with_header_row, with_payload_row};
 
 use crate::decisions::{decide_header, decide_payload};
-use crate::phases::Phase;
 use crate::refusals::FeedRefusal;
 use crate::sizes::HEADER_ROWS;
+use crate::states::Phase;
 use frame::Header;
 
 /// The payload rows of a header's frame.
