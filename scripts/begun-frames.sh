@@ -6,8 +6,7 @@ set -eu
 cd "$(dirname "$0")/.."
 copy=$(mktemp -d)
 trap 'rm -rf "$copy"' EXIT
-cp -r crates crates.txt "$copy"
-if [ -d target ]; then cp -r target "$copy"; fi
+tar -c --exclude=out crates crates.txt | tar -x -C "$copy"
 program="$copy/crates/loopback/src/main.rt"
 cp "$program" "$copy/unedited"
 
@@ -21,7 +20,7 @@ refused() {
         echo "begun-frames: the edit for '$name' changes nothing" >&2
         exit 1
     fi
-    if (cd "$copy" && rt dev loopback) >"$copy/said" 2>&1; then
+    if (cd "$copy/crates/loopback" && rt check) >"$copy/said" 2>&1; then
         echo "begun-frames: a program that $name passes" >&2
         exit 1
     fi
@@ -33,7 +32,7 @@ refused() {
     echo "begun-frames: a program that $name is refused: $(grep -o "error\[$error\]: .*" "$copy/said" | head -1)"
 }
 
-(cd "$copy" && rt dev loopback) >"$copy/said" 2>&1 || {
+(cd "$copy/crates/loopback" && rt check) >"$copy/said" 2>&1 || {
     echo "begun-frames: the unedited program does not pass:" >&2
     cat "$copy/said" >&2
     exit 1

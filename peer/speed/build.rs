@@ -1,10 +1,10 @@
-//! Links the static library that `rt staticlib framecoder` writes.
+//! Links the static library that `rt lib` writes in `crates/framecoder`.
 
 use std::env;
 use std::path::Path;
 
 /// Where the library is written, from this package on.
-const LIBRARIES: &str = "../../target/staticlib";
+const LIBRARIES: &str = "../../crates/framecoder/out";
 
 fn main() {
     let here = env::var("CARGO_MANIFEST_DIR").expect("cargo says where the package is");

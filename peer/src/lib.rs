@@ -11,6 +11,7 @@ pub mod chains;
 pub mod compare;
 pub mod packing;
 pub mod protocol;
+pub mod range;
 pub mod receiving;
 pub mod recording;
 pub mod refusal;

@@ -11,8 +11,8 @@ use peer::protocol::without_end;
 use peer::session::Session;
 
 const USAGE: &str = "usage: peer answer
-       peer compare BENCH [--seed N] [--frames on|off] [--lines N] [--seconds S]
-       peer lines [--seed N] [--frames on|off] [--lines N]";
+       peer compare BENCH [--seed N] [--calls seven|ten|all] [--lines N] [--seconds S]
+       peer lines [--seed N] [--calls seven|ten|all] [--lines N]";
 
 fn main() -> ExitCode {
     let arguments: Vec<String> = std::env::args().skip(1).collect();

@@ -4,6 +4,7 @@ use crate::calls;
 use crate::packing::{pack, unpack};
 use crate::protocol::words::{cells_word, hex};
 use crate::protocol::{is_skipped, read, served, Call, Lists};
+use crate::range::Range;
 use crate::receiving::Receiver;
 use crate::recording::record;
 use crate::refusal::Refusal;
@@ -20,15 +21,23 @@ pub struct Session {
     receiver: Receiver,
     /// The begun frame, its size in rows, and the buffer.
     sending: Option<(Begun, usize, Vec<u8>)>,
+    /// The calls that are known.
+    range: Range,
 }
 
 impl Session {
+    /// A run of a program that knows these calls.
+    pub fn knowing(range: Range) -> Session {
+        Session { range, ..Session::default() }
+    }
+
     /// The answer to a line without its end, or none if the line is skipped.
     pub fn answer(&mut self, line: &[u8]) -> Option<String> {
         if is_skipped(line) {
             return None;
         }
-        let answered = read(line).and_then(|call| self.carry_out(&call));
+        let call = read(line).filter(|call| self.range.has(call));
+        let answered = call.and_then(|call| self.carry_out(&call));
         Some(match answered {
             None => UNREADABLE.to_string(),
             Some(Ok(accepted)) => accepted,

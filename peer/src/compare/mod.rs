@@ -45,7 +45,7 @@ pub fn run(plan: &Plan) -> ExitCode {
             return ExitCode::from(2);
         }
     };
-    let mut tally = Tally::new(plan.frames);
+    let mut tally = Tally::new(plan.range);
     let outcome = compare(&mut child, &mut tally, start + plan.time());
     child.stop();
     println!("{tally}");

@@ -3,11 +3,10 @@
 use std::time::Duration;
 
 use super::script::Script;
+use crate::range::Range;
 
 /// The seed of a run that is not given one.
 pub const DEFAULT_SEED: u64 = 2_011;
-/// Whether a run that is not told sends and receives frames.
-const DEFAULT_FRAMES: bool = true;
 /// The lines and the longest time in seconds of a run that is not told how many and how long.
 const DEFAULT_LIMITS: (usize, u32) = (20_000, 20);
 /// The same of a run with frames.
@@ -19,8 +18,8 @@ pub struct Plan {
     /// The program to be compared.
     pub program: String,
     pub seed: u64,
-    /// Whether frames are sent and received.
-    pub frames: bool,
+    /// The calls that are made.
+    pub range: Range,
     /// How many lines to make at most.
     pub lines: usize,
     /// How long the whole run may last; lines are made for three quarters of it.
@@ -30,21 +29,20 @@ pub struct Plan {
 impl Plan {
     /// The plan that the words of a command line give, if they can be read.
     pub fn of(program: &str, options: &[&str]) -> Option<Plan> {
-        let (mut seed, mut frames, mut lines, mut seconds) =
-            (DEFAULT_SEED, DEFAULT_FRAMES, None, None);
+        let (mut seed, mut range, mut lines, mut seconds) =
+            (DEFAULT_SEED, Range::default(), None, None);
         for option in options.chunks(2) {
             match *option {
                 ["--seed", value] => seed = value.parse().ok()?,
-                ["--frames", "on"] => frames = true,
-                ["--frames", "off"] => frames = false,
+                ["--calls", name] => range = Range::of(name)?,
                 ["--lines", value] => lines = Some(value.parse().ok()?),
                 ["--seconds", value] => seconds = Some(value.parse().ok()?),
                 _ => return None,
             }
         }
-        let limits = if frames { DEFAULT_FRAME_LIMITS } else { DEFAULT_LIMITS };
+        let limits = if range.has_frames() { DEFAULT_FRAME_LIMITS } else { DEFAULT_LIMITS };
         let (lines, seconds) = (lines.unwrap_or(limits.0), seconds.unwrap_or(limits.1));
-        Some(Plan { program: program.to_string(), seed, frames, lines, seconds })
+        Some(Plan { program: program.to_string(), seed, range, lines, seconds })
     }
 
     /// How long the whole run may last.
@@ -54,7 +52,7 @@ impl Plan {
 
     /// The lines of the run.
     pub fn script(&self) -> Script {
-        Script::new(self.seed, self.frames)
+        Script::new(self.seed, self.range)
     }
 }
 
@@ -64,9 +62,9 @@ mod tests {
 
     #[test]
     fn options_change_the_plan() {
-        let options = ["--seed", "7", "--lines", "9", "--seconds", "3", "--frames", "on"];
+        let options = ["--seed", "7", "--lines", "9", "--seconds", "3", "--calls", "seven"];
         let plan = Plan::of("bench", &options).unwrap();
-        assert_eq!((plan.seed, plan.lines, plan.seconds, plan.frames), (7, 9, 3, true));
+        assert_eq!((plan.seed, plan.lines, plan.seconds, plan.range), (7, 9, 3, Range::Seven));
     }
 
     #[test]
@@ -75,9 +73,9 @@ mod tests {
             let plan = Plan::of("bench", options).unwrap();
             (plan.lines, plan.seconds)
         };
-        assert_eq!(limits(&["--frames", "off"]), DEFAULT_LIMITS);
-        assert_eq!(limits(&["--frames", "on"]), DEFAULT_FRAME_LIMITS);
-        assert_eq!(limits(&["--lines", "5", "--frames", "on"]), (5, DEFAULT_FRAME_LIMITS.1));
+        assert_eq!(limits(&["--calls", "ten"]), DEFAULT_LIMITS);
+        assert_eq!(limits(&["--calls", "all"]), DEFAULT_FRAME_LIMITS);
+        assert_eq!(limits(&["--lines", "5", "--calls", "all"]), (5, DEFAULT_FRAME_LIMITS.1));
     }
 
     #[test]
@@ -85,6 +83,6 @@ mod tests {
         assert_eq!(Plan::of("bench", &["--seed"]), None);
         assert_eq!(Plan::of("bench", &["--seed", "x"]), None);
         assert_eq!(Plan::of("bench", &["--sed", "1"]), None);
-        assert_eq!(Plan::of("bench", &["--frames", "yes"]), None);
+        assert_eq!(Plan::of("bench", &["--calls", "some"]), None);
     }
 }

@@ -5,6 +5,7 @@ use std::collections::VecDeque;
 use super::random::Random;
 use super::{lines, odd, receiving, sending, single};
 use crate::protocol::{without_end, Call};
+use crate::range::Range;
 use crate::session::Session;
 
 /// The label of lines that are broken or skipped.
@@ -28,8 +29,8 @@ pub struct Asked {
 /// What makes the lines. The same seed gives the same lines.
 pub struct Script {
     random: Random,
-    /// Whether frames are sent and received.
-    frames: bool,
+    /// The calls that are made.
+    range: Range,
     /// The calls that are still to come of a frame in hand.
     sending: VecDeque<Call>,
     receiving: VecDeque<Call>,
@@ -37,13 +38,13 @@ pub struct Script {
 }
 
 impl Script {
-    /// The lines of this seed, with frames or without.
-    pub fn new(seed: u64, frames: bool) -> Script {
+    /// The lines of this seed, with these calls.
+    pub fn new(seed: u64, range: Range) -> Script {
         // A new run has no frame to take or to finish, and no receiver that listens.
         let receiving = [Call::Take(255), Call::Feed(vec![0; 36]), Call::Take(0)].into();
         let sending = [Call::Finish(vec![0])].into();
-        let session = Session::default();
-        Script { random: Random::new(seed), frames, sending, receiving, session }
+        let session = Session::knowing(range);
+        Script { random: Random::new(seed), range, sending, receiving, session }
     }
 
     /// The next line: a call, or a broken line, or one that is skipped.
@@ -72,14 +73,14 @@ impl Script {
     }
 
     fn call(&mut self) -> Call {
-        if !self.frames {
-            return single::call(&mut self.random, false);
+        if !self.range.has_frames() {
+            return single::call(&mut self.random, self.range);
         }
         match self.random.below(100) {
             0..62 => next_of(&mut self.receiving, || receiving::reception(&mut self.random)),
             62..72 => next_of(&mut self.sending, || sending::transmission(&mut self.random)),
             72..74 => self.stray(),
-            _ => single::call(&mut self.random, true),
+            _ => single::call(&mut self.random, self.range),
         }
     }
 
@@ -93,9 +94,9 @@ impl Script {
 
     fn broken(&mut self) -> Vec<u8> {
         loop {
-            let call = match self.frames && self.random.chance(30) {
+            let call = match self.range.has_frames() && self.random.chance(30) {
                 true => self.stray(),
-                false => single::call(&mut self.random, self.frames),
+                false => single::call(&mut self.random, self.range),
             };
             let words = lines::words(&mut self.random, &call);
             if words.iter().map(String::len).sum::<usize>() <= LONGEST_BROKEN {
@@ -122,7 +123,7 @@ mod tests {
 
     #[test]
     fn the_words_of_a_call_are_read_as_that_call() {
-        let mut script = Script::new(2, true);
+        let mut script = Script::new(2, Range::All);
         for _ in 0..2_000 {
             let call = script.call();
             let words = lines::words(&mut script.random, &call);
@@ -132,7 +133,7 @@ mod tests {
 
     #[test]
     fn a_line_has_one_line_feed_which_is_its_last_byte() {
-        let mut script = Script::new(3, true);
+        let mut script = Script::new(3, Range::All);
         for _ in 0..1_000 {
             let line = script.next_line().line;
             assert_eq!(line.iter().position(|&byte| byte == b'\n'), Some(line.len() - 1));
@@ -141,7 +142,7 @@ mod tests {
 
     #[test]
     fn the_same_seed_gives_the_same_lines() {
-        let (mut one, mut other) = (Script::new(4, true), Script::new(4, true));
+        let (mut one, mut other) = (Script::new(4, Range::All), Script::new(4, Range::All));
         for _ in 0..500 {
             assert_eq!(one.next_line().line, other.next_line().line);
         }

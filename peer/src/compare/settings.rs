@@ -5,20 +5,6 @@ use super::{frames, headers};
 use crate::settings::Settings;
 use crate::size::{size, Header};
 
-/// The names of the plain stages.
-pub const PLAIN: [&str; 10] = [
-    "check",
-    "scramble",
-    "rs",
-    "unpack-bits",
-    "convolution",
-    "fill",
-    "repeat",
-    "interleave",
-    "map",
-    "difference",
-];
-
 /// The names of the chains of a frame.
 pub const CHAINS: [&str; 2] = ["header", "payload"];
 
@@ -207,7 +193,7 @@ mod tests {
     #[test]
     fn right_settings_make_a_stage_and_wrong_ones_are_refused() {
         let mut random = Random::new(1);
-        for name in PLAIN.into_iter().chain(CHAINS) {
+        for name in crate::range::TEN_STAGES.into_iter().chain(CHAINS) {
             for _ in 0..1_000 {
                 assert!(right(&mut random, name).chain().is_ok());
                 let wrong = wrong(&mut random, name);

@@ -4,6 +4,7 @@ use super::random::Random;
 use super::{headers, lists, settings};
 use crate::packing;
 use crate::protocol::{Call, Lists};
+use crate::range::Range;
 use crate::rows::CARRIERS;
 use crate::size::Header;
 use crate::stages::check::Check;
@@ -11,14 +12,15 @@ use crate::stages::unpack_bits::UnpackBits;
 use crate::stages::Stage;
 
 /// A call of `size` or of a stage; with frames also of `pack`, `unpack`, `record` or of a chain.
-pub fn call(random: &mut Random, frames: bool) -> Call {
+pub fn call(random: &mut Random, range: Range) -> Call {
+    let frames = range.has_frames();
     match random.below(100) {
         0..10 => Call::Size(headers::any(random)),
         10..15 if frames => Call::Pack(headers::any(random), packing_room(random)),
         15..22 if frames => Call::Unpack(packed(random)),
         22..25 if frames => Call::Record(recording(random)),
         25..40 if frames => listed(random, &settings::CHAINS),
-        _ => listed(random, &settings::PLAIN),
+        _ => listed(random, range.stages()),
     }
 }
 

@@ -4,7 +4,8 @@ use std::collections::BTreeMap;
 use std::fmt;
 
 use super::script::ODD;
-use super::settings::{refusals, CHAINS, PLAIN};
+use super::settings::{refusals, CHAINS};
+use crate::range::Range;
 
 /// The kinds of answers, in the order of the table's columns.
 const KINDS: [&str; 15] =
@@ -27,8 +28,8 @@ const LEAST: usize = 5;
 
 /// The counts of a run.
 pub struct Tally {
-    /// Whether frames are sent and received.
-    frames: bool,
+    /// The calls that are made.
+    range: Range,
     /// For each label, how many answers there were of each kind.
     answers: BTreeMap<String, BTreeMap<&'static str, usize>>,
     /// Lines that get no answer.
@@ -36,9 +37,9 @@ pub struct Tally {
 }
 
 impl Tally {
-    /// No counts, of a run with frames or without.
-    pub fn new(frames: bool) -> Tally {
-        Tally { frames, answers: BTreeMap::new(), skipped: 0 }
+    /// No counts, of a run with these calls.
+    pub fn new(range: Range) -> Tally {
+        Tally { range, answers: BTreeMap::new(), skipped: 0 }
     }
 
     /// Counts a line under its label, with the answer to it.
@@ -76,7 +77,7 @@ impl Tally {
     /// and a third of all answers accepted.
     pub fn unreached(&self) -> Vec<String> {
         let mut unreached = Vec::new();
-        for (label, kinds) in expected(self.frames) {
+        for (label, kinds) in expected(self.range) {
             for kind in kinds {
                 let count = self.of(&label, kind);
                 if count < LEAST {
@@ -104,12 +105,13 @@ fn kind(answer: &str) -> &'static str {
 }
 
 /// For each label, the kinds of answers that it can get.
-fn expected(frames: bool) -> Vec<(String, Vec<&'static str>)> {
+fn expected(range: Range) -> Vec<(String, Vec<&'static str>)> {
+    let frames = range.has_frames();
     let mut all = vec![
         (ODD.to_string(), vec!["unreadable"]),
         ("size".to_string(), vec!["accepted", "1", "2", "3", "4", "5"]),
     ];
-    for name in PLAIN.into_iter().chain(CHAINS.into_iter().filter(|_| frames)) {
+    for &name in range.stages().iter().chain(CHAINS.iter().filter(|_| frames)) {
         let calls = [("code", ["accepted", "7", "13"]), ("decode", ["accepted", "7", "10"])];
         for (call, kinds) in calls {
             all.push((format!("{call} {name}"), [&kinds, refusals(name)].concat()));
@@ -143,9 +145,9 @@ mod tests {
     use crate::compare::plan::DEFAULT_SEED;
     use crate::compare::script::Script;
 
-    fn unreached(lines: usize, frames: bool) -> Vec<String> {
-        let mut script = Script::new(DEFAULT_SEED, frames);
-        let mut tally = Tally::new(frames);
+    fn unreached(lines: usize, range: Range) -> Vec<String> {
+        let mut script = Script::new(DEFAULT_SEED, range);
+        let mut tally = Tally::new(range);
         for _ in 0..lines {
             let asked = script.next_line();
             tally.count(&asked.label, asked.expected.as_deref());
@@ -155,17 +157,18 @@ mod tests {
 
     #[test]
     fn the_first_4000_lines_reach_every_kind_of_answer_and_a_third_is_accepted() {
-        assert_eq!(unreached(4_000, false), Vec::<String>::new());
+        assert_eq!(unreached(4_000, Range::Seven), Vec::<String>::new());
+        assert_eq!(unreached(4_000, Range::Ten), Vec::<String>::new());
     }
 
     #[test]
     fn the_first_60000_lines_with_frames_reach_every_kind_of_answer() {
-        assert_eq!(unreached(60_000, true), Vec::<String>::new());
+        assert_eq!(unreached(60_000, Range::All), Vec::<String>::new());
     }
 
     #[test]
     fn answers_are_counted_by_their_kind() {
-        let mut tally = Tally::new(false);
+        let mut tally = Tally::new(Range::Ten);
         tally.count("size", Some("size 1 21"));
         tally.count("size", Some("refused 10 stage 7 place 2 depth 0"));
         tally.count("size", Some("unreadable"));
