@@ -14,13 +14,13 @@ use crate::refusals::ChainRefusal;
 use frame::Header;
 use stage::{Refusal, Stage};
 
-/// Puts the 468 cells that carry a header's 28 bits at the front of `result` and answers how many
+/// Puts the 468 cells that carry a header's 28 bits at the front of `res` and answers how many
 /// they are.
 ///
 /// Refuses, in this order, with `Setting` a reference that is not 36 cells of 0 to 7, with
 /// `Illegal` what is not 28 bits, and with `TooShort` a buffer of fewer than 468 elements.
 ///
-/// On success `work`, and `result` behind the cells, are working memory. A refusal leaves both
+/// On success `work`, and `res` behind the cells, are working memory. A refusal leaves both
 /// buffers as they were.
 pub fn code_header(
     reference: &[u8],
@@ -35,14 +35,14 @@ pub fn code_header(
     chain.code(bits, work, res)
 }
 
-/// Puts the 28 bits that a header's 468 cells carry at the front of `result` and answers how many
+/// Puts the 28 bits that a header's 468 cells carry at the front of `res` and answers how many
 /// they are.
 ///
 /// Refuses, in this order, with `Setting` a reference that is not 36 cells of 0 to 7, with
 /// `TooShort` a buffer that is shorter than the longest list of the decoding, and with `Fault`
 /// cells that carry no header.
 ///
-/// On success `work`, and `result` behind the bits, are working memory. After a fault both buffers
+/// On success `work`, and `res` behind the bits, are working memory. After a fault both buffers
 /// are working memory, whole. Any other refusal leaves them as they were.
 pub fn decode_header(
     reference: &[u8],
@@ -65,7 +65,7 @@ fn chain_of(header: Header, reference: &[u8]) -> Result<PayloadChain, ChainRefus
     PayloadChain::new(header, reference)
 }
 
-/// Puts the live cells that carry a payload at the front of `result`, row after row, and answers
+/// Puts the live cells that carry a payload at the front of `res`, row after row, and answers
 /// how many they are.
 ///
 /// Refuses, in this order, an illegal header as `size` does, with `Reference` a reference that has
@@ -73,7 +73,7 @@ fn chain_of(header: Header, reference: &[u8]) -> Result<PayloadChain, ChainRefus
 /// length than the header's, and with `TooShort` a buffer that is shorter than the longest list of
 /// the coding.
 ///
-/// On success `work`, and `result` behind the cells, are working memory. A refusal leaves both
+/// On success `work`, and `res` behind the cells, are working memory. A refusal leaves both
 /// buffers as they were.
 pub fn code_payload(
     header: Header,
@@ -90,7 +90,7 @@ pub fn code_payload(
     Ok(length)
 }
 
-/// Puts the payload that live cells carry at the front of `result` and answers how many bytes it
+/// Puts the payload that live cells carry at the front of `res` and answers how many bytes it
 /// has.
 ///
 /// Refuses, in this order, an illegal header as `size` does, with `Reference` a reference that has
@@ -98,7 +98,7 @@ pub fn code_payload(
 /// shorter than the longest list of the decoding, and with `Fault` cells that carry no payload of
 /// the header.
 ///
-/// On success `work`, and `result` behind the payload, are working memory. After a fault both
+/// On success `work`, and `res` behind the payload, are working memory. After a fault both
 /// buffers are working memory, whole. Any other refusal leaves them as they were.
 pub fn decode_payload(
     header: Header,

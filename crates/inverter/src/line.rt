@@ -6,7 +6,7 @@ use stage::{Refusal, Stage};
 
 /// Codes `list` into `line` and decodes it from there; answers the length of what arrived.
 ///
-/// What arrives at the front of `result` is `list`, whatever the stage. Refuses as the two calls
+/// What arrives at the front of `res` is `list`, whatever the stage. Refuses as the two calls
 /// do.
 pub fn arrives<S: Stage>(
     stage: &S,

@@ -28,9 +28,9 @@ pub trait Stage {
     fn decoded_span(&self, length: usize) -> Span
         ensures { result ≡ decode_span (model self.now) length };
 
-    /// Codes the first `n` elements of `result` in place and answers the coding's length.
+    /// Codes the first `n` elements of `res` in place and answers the coding's length.
     ///
-    /// Both buffers have the room for it. `work`, and `result` behind the coding, are working
+    /// Both buffers have the room for it. `work`, and `res` behind the coding, are working
     /// memory.
     fn code_in(&self, n: usize, work: &mut [u8], res: &mut [u8]) -> usize
         requires list { legal (model self.now) (take n res.old) ≡ true }
@@ -39,10 +39,10 @@ pub trait Stage {
         requires result_room { code_room (model self.now) n ≤ length res.old }
         ensures { Holds res.new result (coding (model self.now) (take n res.old)) };
 
-    /// Decodes the first `n` elements of `result` in place and answers the list's length.
+    /// Decodes the first `n` elements of `res` in place and answers the list's length.
     ///
     /// Both buffers have the room for it. Refuses by the fault where they are no coding. `work`,
-    /// `result` behind the list, and after a fault all of `result`, are working memory.
+    /// `res` behind the list, and after a fault all of `res`, are working memory.
     fn decode_in(&self, n: usize, work: &mut [u8], res: &mut [u8]) -> Result<usize, ChainFault>
         requires fit { fits (model self.now) ≡ true }
         requires front { n ≤ length res.old }
@@ -50,13 +50,13 @@ pub trait Stage {
         requires result_room { decode_room (model self.now) n ≤ length res.old }
         ensures { Leaves (decoding (model self.now) (take n res.old)) result res.new };
 
-    /// Puts the coding of `list` at the front of `result` and answers its length.
+    /// Puts the coding of `list` at the front of `res` and answers its length.
     ///
     /// Refuses, in this order, with `Misfit` where the members do not fit, with `Illegal` where
     /// the list has a length or an element that is not taken, and with `TooShort` where a
     /// buffer is shorter than the longest list of the call, `list` included.
     ///
-    /// On success `work`, and `result` behind the coding, are working memory. A refusal leaves
+    /// On success `work`, and `res` behind the coding, are working memory. A refusal leaves
     /// both buffers as they were.
     fn code(&self, list: &[u8], work: &mut [u8], res: &mut [u8]) -> Result<usize, Refusal>
         ensures answer { result ≡ code_answer (model self.now) list.now (length work.old) (length res.old) }
@@ -77,7 +77,7 @@ pub trait Stage {
         Ok(self.code_in(list.len(), work, res))
     }
 
-    /// Puts the list of which `list` is the coding at the front of `result` and answers its
+    /// Puts the list of which `list` is the coding at the front of `res` and answers its
     /// length.
     ///
     /// Refuses, in this order, with `Misfit` where the members do not fit, with `TooShort` where
@@ -85,7 +85,7 @@ pub trait Stage {
     /// where `list` is no coding. Lists are counted from the line inward, up to and with the
     /// first whose length no coding has.
     ///
-    /// On success `work`, and `result` behind the list, are working memory. After a fault both
+    /// On success `work`, and `res` behind the list, are working memory. After a fault both
     /// buffers are working memory, whole. Any other refusal leaves them as they were.
     fn decode(&self, list: &[u8], work: &mut [u8], res: &mut [u8]) -> Result<usize, Refusal>
         ensures answer { result ≡ decode_answer (model self.now) list.now (length work.old) (length res.old) }
