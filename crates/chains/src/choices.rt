@@ -1,7 +1,6 @@
 //! A stage that is one of two, chosen when it is made.
 
-ghost use Rattle.chains.specs.Choices.{one_of};
-ghost use Rattle.std.proofs.Common.{rules};
+ghost use Rattle.chains.specs.Choices.{one_of, one_of_keeps};
 
 use stage::{ChainFault, Outline, Span, Stage};
 
@@ -17,7 +16,7 @@ pub enum Choice<A, B> {
 impl<A: Stage, B: Stage> Stage for Choice<A, B> {
     ghost model = { one_of A.Stage.model B.Stage.model };
 
-    ghost keeps = { Prim.search rules };
+    ghost keeps = { one_of_keeps A.Stage.model B.Stage.model A.Stage.keeps B.Stage.keeps };
 
     fn outline(&self) -> Outline {
         match self {
