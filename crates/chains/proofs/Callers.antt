@@ -43,12 +43,12 @@ module _ (m : Model) (highest n k room : ℕ) (c : Carries m highest n k room) w
   pub coding_is_phases : (xs : List ℕ) → legal m xs ≡ true → within 7 (coding m xs) ≡ true
   coding_is_phases xs l = ap (λ t. within t (coding m xs)) (sym c.puts_cells) ∙ c.keeps.stated_alphabet xs l
 
-  -- what is decoded is legal, and comes from k phases
-  pub decoded_is_legal : (ys xs : List ℕ) → decoding m ys ≡ Ok xs → legal m xs ≡ true
-  decoded_is_legal ys xs e = (c.keeps.nothing_else ys xs e).is_legal
+  -- decoding gives a list back exactly if the cells are its coding
+  pub decoded_is_coded : (xs ys : List ℕ) → decoding m ys ≡ Ok xs → (legal m xs ≡ true) × (ys ≡ coding m xs)
+  decoded_is_coded xs ys e = let q = c.keeps.nothing_else ys xs e in (q.is_legal, sym q.is_coding)
 
-  pub decoded_from_coding : (ys xs : List ℕ) → decoding m ys ≡ Ok xs → coding m xs ≡ ys
-  decoded_from_coding ys xs e = (c.keeps.nothing_else ys xs e).is_coding
+  pub coded_is_decoded : (xs ys : List ℕ) → legal m xs ≡ true → ys ≡ coding m xs → decoding m ys ≡ Ok xs
+  coded_is_decoded xs ys l e = ap (decoding m) e ∙ c.keeps.taken_back xs l
 
   -- the calls with room enough
   pub code_answered : (xs : List ℕ) (work result : ℕ) → length xs ≡ n → within highest xs ≡ true → room ≤ work → room ≤ result → code_answer m xs work result ≡ Ok k

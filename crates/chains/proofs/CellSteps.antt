@@ -9,7 +9,7 @@ use Rattle.phases.specs.DifferenceLaws.{difference_sound}
 use Rattle.phases.specs.MapLaws.{mapping_sound}
 use Rattle.phases.specs.Differences.{difference, is_reference, row_length, whole_rows}
 use Rattle.phases.specs.Maps.{mapping, is_width, mapped_length}
-use Rattle.stage.proofs.Plains.{plain_keeps}
+use Rattle.stage.specs.Plains.{plain_keeps}
 use Rattle.stage.specs.Model.{plain, pile}
 use Rattle.stage.specs.Plain.{within}
 use Rattle.std.proofs.lemmas.Nat.{mul-le}

@@ -10,7 +10,7 @@ use Rattle.codings.specs.Checks.{checking}
 use Rattle.codings.specs.Repeats.{repetition}
 use Rattle.convolution.specs.NearestLaws.{convolution_sound}
 use Rattle.convolution.specs.Convolutions.{convolution}
-use Rattle.stage.proofs.Plains.{plain_keeps}
+use Rattle.stage.specs.Plains.{plain_keeps}
 use Rattle.stage.specs.Model.{Model, plain, pile}
 
 abbrev checked : Model

@@ -1,14 +1,13 @@
 -- The stages of a chain, piled up, are the chain.
-use Rattle.std.proofs.Common.{◌≡◌, ℕ, ◌-◌, ◌≤◌, Bool, true, false, cond, ◌&&◌, List, length, Some, None, Ok, Err, Option, Result, sym, refl, ap, ◌∙◌, arith}
+use Rattle.std.proofs.Common.{◌≡◌, ℕ, ◌≤◌, Bool, true, false, cond, ◌&&◌, List, length, Ok, Err, Result, sym, refl, ap, ◌∙◌, arith}
 use Rattle.chains.proofs.CellSteps.{known_row, known_width}
 use Rattle.chains.proofs.PayloadSteps.{known_strengths, sound_known, sound_fillable}
 use Rattle.chains.specs.Calls.{made_header_chain, made_payload_chain, payload_chain_sized}
 use Rattle.chains.specs.Chains.{convolved_bits, header_chain, is_row, payload_chain, to_bits, to_cells, with_copies}
 use Rattle.chains.specs.Makings.{piled, piled_bits, piled_cells, piled_header, piled_payload, repeated_first}
-use Rattle.chains.specs.declared.payloads.PayloadChain.{PayloadChain}
 use Rattle.chains.specs.declared.refusals.ChainRefusal.{ChainRefusal}
 use Rattle.chains.specs.declared.refusals.ChainRefusal.TheVariants.{Reference}
-use Rattle.chains.specs.Meanings.{of_payload_chain, Means}
+use Rattle.chains.specs.Meanings.{Means, PayloadChain, of_payload_chain}
 use Rattle.codings.specs.Checks.{checking}
 use Rattle.codings.specs.Fills.{filling, fillable, made_fill}
 use Rattle.codings.specs.Repeats.{repetition}
@@ -16,7 +15,7 @@ use Rattle.codings.specs.Scramblers.{scrambling}
 use Rattle.codings.specs.Unpackers.{unpacking}
 use Rattle.convolution.specs.Convolutions.{convolution}
 use Rattle.frame.proofs.SoundSizes.{legal_sizes_are_sound}
-use Rattle.frame.specs.Answers.{Legal, block, payload, refusal, size_answer, unless_refused}
+use Rattle.frame.specs.Answers.{Legal, block, payload, size_answer, unless_refused}
 use Rattle.frame.specs.declared.headers.Header.{Header}
 use Rattle.frame.specs.declared.modulations.Modulation.{Modulation}
 use Rattle.frame.specs.declared.modulations.Modulation.TheVariants.{Robust, Dbpsk, Dqpsk, D8psk}
@@ -96,27 +95,11 @@ payload_made h reference legal long =
     ∙ ap (piled (Ok front)) (copies_made mo line (within 7 reference))
     ∙ piled_if front (with_copies mo line) (within 7 reference)
 
--- a header that has a size is legal, and the size is its payload and its rows
-pub record Sized (h : Header) (bytes rows : ℕ) : Type 0 where
-  pub legal : Legal h
-  pub bytes_are : bytes ≡ payload h
-  pub rows_are : rows ≡ row_count h.fl
-
-pub sized : (h : Header) (bytes rows : ℕ) → Ok (bytes, rows) ≡ size_answer h → Sized h bytes rows
-sized h bytes rows e = of (refusal h) refl e
-  where
-    of : (o : Option FrameRefusal) → refusal h ≡ o → ◌≡◌ {A = Result (ℕ × ℕ) FrameRefusal} (Ok (bytes, rows)) (unless_refused o (payload h, row_count h.fl)) → Sized h bytes rows
-    of (Some x) q a = let z : ◌≡◌ {A = ℕ} 0 1 = cc in absurd (omega arith)
-    of None q a =
-        let pair : ◌≡◌ {A = ℕ × ℕ} (bytes, rows) (payload h, row_count h.fl) = cc in
-        record { legal = q; bytes_are = ap (λ (x : ℕ × ℕ). x.0) pair; rows_are = ap (λ (x : ℕ × ℕ). x.1) pair }
-
--- what the sizes of a header say of the numbers that its chain is piled up by
-pub sized_few : (h : Header) (bytes rows m : ℕ) → Ok (bytes, rows) ≡ size_answer h → m ≡ live_carriers h.tm → (bytes ≤ 255) × (rows - 13 ≤ 252) × (m ≤ 36)
-sized_few h bytes rows m e long =
-    let z = sized h bytes rows e in
-    let s = legal_sizes_are_sound h z.legal in
-    (omega (arith, z.bytes_are, s.whole_block, s.short_block), omega (arith, z.rows_are, s.few_rows), omega (arith, s.few_carriers))
+-- what the sizes of a legal header say of the numbers that its chain is piled up by
+pub sized_few : (h : Header) (bytes rows m : ℕ) → Legal h → bytes ≡ payload h → rows ≡ payload_rows h.fl → m ≡ live_carriers h.tm → (bytes ≤ 255) × (rows ≤ 252) × (m ≤ 36)
+sized_few h bytes rows m legal eb er long =
+    let s = legal_sizes_are_sound h legal in
+    (omega (arith, s.whole_block, s.short_block), omega (arith, s.few_rows), omega (arith, s.few_carriers))
 
 -- a reference is all that the stages of a legal header refuse
 abbrev pub by_reference : Result Model Refusal → Result Model ChainRefusal
@@ -127,27 +110,26 @@ by_reference_if : (t : Bool) (m : Model) → by_reference (made_if t m) ≡ cond
 by_reference_if true m = refl
 by_reference_if false m = refl
 
-pub payload_over_row : (h : Header) (mo : Modulation) (bytes rows : ℕ) (reference : List ℕ) → mo ≡ modulation_of h.modulation → Ok (bytes, rows) ≡ size_answer h → length reference ≡ live_carriers h.tm → by_reference (piled_payload mo bytes (length reference) (rows - 13) reference) ≡ made_payload_chain h reference
-payload_over_row h mo bytes rows reference em e long =
-    let z = sized h bytes rows e in
-    let rows_left : rows - 13 ≡ payload_rows h.fl = omega (arith, z.rows_are) in
-    ap (λ k. by_reference (piled_payload k bytes (length reference) (rows - 13) reference)) em
-    ∙ ap (λ k. by_reference (piled_payload (modulation_of h.modulation) k (length reference) (rows - 13) reference)) z.bytes_are
-    ∙ ap (λ k. by_reference (piled_payload (modulation_of h.modulation) (payload h) k (rows - 13) reference)) long
-    ∙ ap (λ k. by_reference (piled_payload (modulation_of h.modulation) (payload h) (live_carriers h.tm) k reference)) rows_left
-    ∙ ap by_reference (payload_made h reference z.legal long)
+pub payload_over_row : (h : Header) (mo : Modulation) (bytes rows : ℕ) (reference : List ℕ) → mo ≡ modulation_of h.modulation → Legal h → bytes ≡ payload h → rows ≡ payload_rows h.fl → length reference ≡ live_carriers h.tm
+    → by_reference (piled_payload mo bytes (length reference) rows reference) ≡ made_payload_chain h reference
+payload_over_row h mo bytes rows reference em legal eb er long =
+    ap (λ k. by_reference (piled_payload k bytes (length reference) rows reference)) em
+    ∙ ap (λ k. by_reference (piled_payload (modulation_of h.modulation) k (length reference) rows reference)) eb
+    ∙ ap (λ k. by_reference (piled_payload (modulation_of h.modulation) (payload h) k rows reference)) long
+    ∙ ap (λ k. by_reference (piled_payload (modulation_of h.modulation) (payload h) (live_carriers h.tm) k reference)) er
+    ∙ ap by_reference (payload_made h reference legal long)
     ∙ by_reference_if (within 7 reference) (payload_chain h reference)
     ∙ ap (λ t. cond t (Ok (payload_chain h reference)) (Err Reference)) (sym (row_test reference (live_carriers h.tm) long))
-    ∙ ap (λ r. payload_chain_sized r h reference) e
+    ∙ ap (λ o. payload_chain_sized (unless_refused o (payload h, row_count h.fl)) h reference) (sym legal)
 
 -- a payload chain that was made means the payload chain
 sized_means : (size : Result (ℕ × ℕ) FrameRefusal) (h : Header) (reference : List ℕ) (m : Model) → Ok m ≡ payload_chain_sized size h reference → m ≡ payload_chain h reference
-sized_means (Err e) h reference m q = let z : ◌≡◌ {A = ℕ} 0 1 = cc in absurd (omega arith)
+sized_means (Err e) h reference m q = absurd (cc)
 sized_means (Ok size) h reference m q = of (is_row (live_carriers h.tm) reference) q
   where
     of : (t : Bool) → ◌≡◌ {A = Result Model ChainRefusal} (Ok m) (cond t (Ok (payload_chain h reference)) (Err Reference)) → m ≡ payload_chain h reference
     of true e = cc
-    of false e = let z : ◌≡◌ {A = ℕ} 0 1 = cc in absurd (omega arith)
+    of false e = absurd (cc)
 
 pub made_means : (h : Header) (reference : List ℕ) (r : Result PayloadChain ChainRefusal) → mapped_both of_payload_chain (λ e. e) r ≡ made_payload_chain h reference → Means r (payload_chain h reference)
 made_means h reference (Ok s) e = sized_means (size_answer h) h reference (of_payload_chain s) e

@@ -26,7 +26,7 @@ use Rattle.interleave.specs.Interleavings.{known_sizes}
 use Rattle.reedsolomon.specs.WordLaws.{words_sound}
 use Rattle.reedsolomon.specs.Codes.{known_strength}
 use Rattle.reedsolomon.specs.Words.{words}
-use Rattle.stage.proofs.Plains.{plain_keeps}
+use Rattle.stage.specs.Plains.{plain_keeps}
 use Rattle.stage.specs.Model.{Model, plain, pile}
 use Rattle.std.proofs.lemmas.Nat.{mul-le}
 use Rattle.std.proofs.lemmas.Bool.{and_from, le-leb, eq-eqb, cond-true}

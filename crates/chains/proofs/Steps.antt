@@ -67,7 +67,7 @@ one_length j from to l e = of (eqb j from) refl e
   where
     of : (t : Bool) → eqb j from ≡ t → cond t (Some to) None ≡ Some l → j ≡ from
     of true q h = eqb-true j from q
-    of false q h = let z : ◌≡◌ {A = ℕ} 0 1 = cc in absurd (omega arith)
+    of false q h = absurd (cc)
 
 same_some : (m n : ℕ) → ◌≡◌ {A = Option ℕ} (Some m) (Some n) → m ≡ n
 same_some m n e = cc
@@ -75,7 +75,7 @@ same_some m n e = cc
 -- a length behind two stages goes through one between them
 between : (o : Option ℕ) (next : ℕ → Option ℕ) (l : ℕ) → through o next ≡ Some l → (i : ℕ) × ((o ≡ Some i) × (next i ≡ Some l))
 between (Some i) next l e = (i, (refl, e))
-between None next l e = let z : ◌≡◌ {A = ℕ} 0 1 = cc in absurd (omega arith)
+between None next l e = absurd (cc)
 
 pub only_by_first : (a b : Model) (n : ℕ) → Only a n → Only (pile a b) n
 only_by_first a b n only j l e =

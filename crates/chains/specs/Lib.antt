@@ -7,3 +7,4 @@ pub mod Makings
 pub mod Meanings
 pub mod Refusals
 pub mod Promises
+pub mod Wholes

@@ -35,7 +35,7 @@ use Rattle.reedsolomon.specs.Meanings.{of_reed_solomon}
 use Rattle.reedsolomon.specs.Words.{words}
 use Rattle.stage.specs.Legality.{fitting}
 use Rattle.stage.specs.PilePromise.{pile_keeps}
-use Rattle.stage.proofs.Plains.{plain_keeps}
+use Rattle.stage.specs.Plains.{plain_keeps}
 use Rattle.stage.specs.declared.piles.Pile.{Pile}
 use Rattle.stage.specs.Model.{Model, plain, pile, fits}
 use Rattle.stage.specs.Plain.{Plain}

@@ -14,6 +14,7 @@ use crate::refusals::ChainRefusal;
 use frame::Header;
 use stage::{Refusal, Stage};
 
+// Coding and decoding are told apart by name, as in a stage: a parameter for which would be no plainer.
 /// Puts the 468 cells that carry a header's 28 bits at the front of `res` and answers how many
 /// they are.
 ///

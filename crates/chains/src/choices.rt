@@ -5,6 +5,7 @@ ghost use Rattle.chains.specs.Choices.{one_of, one_of_keeps};
 use stage::{ChainFault, Outline, Span, Stage};
 
 /// One of two stages; it is a stage just as the one it holds.
+// Neither an Option nor a Result: both variants hold a stage, and neither stands for want or failure.
 #[derive(Drop)]
 pub enum Choice<A, B> {
     /// The one.
@@ -18,6 +19,7 @@ impl<A: Stage, B: Stage> Stage for Choice<A, B> {
 
     ghost keeps = { one_of_keeps A.Stage.model B.Stage.model A.Stage.keeps B.Stage.keeps };
 
+    // Two arms alike in each method: they are of two types, and a closure would have to be generic.
     fn outline(&self) -> Outline {
         match self {
             Choice::First(stage) => stage.outline(),

@@ -8,9 +8,11 @@ mod laws;
 mod makings;
 mod payloads;
 mod refusals;
+mod wholes;
 
 pub use calls::{code_header, code_payload, decode_header, decode_payload};
 pub use headers::HeaderChain;
 pub use laws::chains_carry_their_frames;
 pub use payloads::PayloadChain;
 pub use refusals::ChainRefusal;
+pub use wholes::Chain;

@@ -1,29 +1,23 @@
 //! The payload chain of a header.
 
-ghost use Rattle.std.specs.Prelude.{◌≡◌, ◌≤◌, length, Ok};
+ghost use Rattle.std.specs.Prelude.{◌≡◌, ◌≤◌, length};
 ghost use Rattle.chains.specs.Calls.{made_payload_chain};
 ghost use Rattle.chains.specs.Makings.{of_bits, of_line, piled_bits, piled_cells, piled_payload, repeated_first};
 ghost use Rattle.chains.specs.Meanings.{of_payload_chain};
-ghost use Rattle.frame.specs.Answers.{size_answer};
-ghost use Rattle.frame.specs.Modulations.{bits_per_cell, modulation_of};
+ghost use Rattle.frame.specs.Answers.{Legal, payload};
+ghost use Rattle.frame.specs.Modulations.{bits_per_cell};
 ghost use Rattle.frame.specs.Sizes.{live_carriers};
 ghost use Rattle.std.specs.Result.{result_map_both as mapped_both};
-ghost use Rattle.chains.specs.Promises.{bits_keep, both, line_keeps};
 
 use crate::choices::Choice;
 use crate::makings::{ToCells, pile_up, to_cells};
 use crate::refusals::ChainRefusal;
+use crate::wholes::Chain;
 use codings::{Fill, Repeat, Scramble, UnpackBits};
 use convolution::Convolve;
 use frame::{Header, Modulation, size};
 use reedsolomon::ReedSolomon;
-use stage::{ChainFault, Outline, Pile, Refusal, Span, Stage};
-
-/// A sub-band has so many carriers.
-const BAND_CARRIERS: usize = 6;
-
-/// A frame begins with so many rows of header.
-const HEADER_ROWS: usize = 13;
+use stage::{Pile, Refusal};
 
 /// How often each coded bit of a robust payload is sent.
 const ROBUST_COPIES: usize = 4;
@@ -43,29 +37,7 @@ type Line = Choice<Pile<Repeat, ToCells>, ToCells>;
 /// The chain that carries a payload in the live cells of the payload rows: scramble,
 /// Reed-Solomon, unpack bits, convolution, fill, repeat where the payload is robust, interleave,
 /// map and difference.
-#[derive(Drop)]
-pub struct PayloadChain {
-    pile: Pile<ToBits, Line>,
-}
-
-/// m: the carriers that are live for the payload.
-fn live_carriers(tm: u32) -> usize
-    ensures { result ≡ live_carriers tm }
-{
-    BAND_CARRIERS * tm.count_ones() as usize
-}
-
-/// The modulation that a header's MOD stands for.
-fn modulation_of(number: u32) -> Modulation
-    ensures { result ≡ modulation_of number }
-{
-    match number {
-        0 => Modulation::Robust,
-        1 => Modulation::Dbpsk,
-        2 => Modulation::Dqpsk,
-        _ => Modulation::D8psk,
-    }
-}
+pub type PayloadChain = Chain<Pile<ToBits, Line>>;
 
 /// The stages for a block of `bytes` bytes, 2 · `strength` of them parity, and `total` coded bits.
 fn to_bits(strength: usize, bytes: usize, total: usize) -> Result<ToBits, Refusal>
@@ -115,23 +87,19 @@ fn piled_over(
     let total = cells * modulation.bits_per_cell() / modulation.copies();
     let bits = to_bits(strength, bytes + 2 * strength, total);
     let pile = pile_up(bits, to_line(modulation, rows, reference))?;
-    Ok(PayloadChain { pile })
+    Ok(Chain { pile })
 }
 
 /// The chain of a legal header over a reference of as many cells as carriers are live, if they
 /// are phases.
-fn over_row(
-    header: Header,
-    bytes: usize,
-    rows: usize,
-    reference: &[u8],
-) -> Result<PayloadChain, ChainRefusal>
-    requires sizes { Ok (bytes, rows) ≡ size_answer header }
+fn over_row(header: Header, bytes: usize, reference: &[u8]) -> Result<PayloadChain, ChainRefusal>
+    requires legal { Legal header }
+    requires bytes { bytes ≡ payload header }
     requires row { length reference.now ≡ live_carriers header.tm }
     ensures { mapped_both of_payload_chain (λ e. e) result ≡ made_payload_chain header reference.now }
 {
-    let modulation = modulation_of(header.modulation);
-    match piled_over(modulation, bytes, rows - HEADER_ROWS, reference) {
+    let modulation = header.payload_modulation();
+    match piled_over(modulation, bytes, header.payload_rows(), reference) {
         Ok(chain) => Ok(chain),
         Err(_) => Err(ChainRefusal::Reference),
     }
@@ -145,36 +113,10 @@ impl PayloadChain {
     pub fn new(header: Header, reference: &[u8]) -> Result<PayloadChain, ChainRefusal>
         ensures { mapped_both of_payload_chain (λ e. e) result ≡ made_payload_chain header reference.now }
     {
-        let (bytes, rows) = size(header)?;
-        if reference.len() != live_carriers(header.tm) {
+        let (bytes, _) = size(header)?;
+        if reference.len() != header.live_carriers() {
             return Err(ChainRefusal::Reference);
         }
-        over_row(header, bytes, rows, reference)
-    }
-}
-
-impl Stage for PayloadChain {
-    ghost model = { of_payload_chain };
-
-    ghost keeps = { λ s. both (of_bits s.pile.first) (of_line s.pile.second) (bits_keep s.pile.first) (line_keeps s.pile.second) };
-
-    fn outline(&self) -> Outline {
-        self.pile.outline()
-    }
-
-    fn coded_span(&self, length: usize) -> Span {
-        self.pile.coded_span(length)
-    }
-
-    fn decoded_span(&self, length: usize) -> Span {
-        self.pile.decoded_span(length)
-    }
-
-    fn code_in(&self, n: usize, work: &mut [u8], res: &mut [u8]) -> usize {
-        self.pile.code_in(n, work, res)
-    }
-
-    fn decode_in(&self, n: usize, work: &mut [u8], res: &mut [u8]) -> Result<usize, ChainFault> {
-        self.pile.decode_in(n, work, res)
+        over_row(header, bytes, reference)
     }
 }

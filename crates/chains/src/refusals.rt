@@ -17,7 +17,7 @@ pub enum ChainRefusal {
 }
 
 impl ChainRefusal {
-    /// The number under which the refusal is known: that of the header's or the call's, and 1 for
+    /// The number under which the refusal is known to hosts: that of the header's or the call's, and 1 for
     /// the reference, which is a setting.
     pub fn number(self) -> u32
         ensures { result ≡ number_of self }

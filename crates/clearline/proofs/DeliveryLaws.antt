@@ -1,5 +1,5 @@
 -- Rows fed one after the other, and what is taken behind them.
-use Rattle.std.proofs.Common.{◌≡◌, ℕ, zero, suc, ◌+◌, ◌*◌, ◌≤◌, Bool, true, false, cond, eqb, List, [], ◌∷◌, ◌++◌, length, take, drop, Some, None, Ok, Err, Option, Result, sym, refl, ap, ◌∙◌, subst, arith, drop-drop}
+use Rattle.std.proofs.Common.{◌≡◌, ℕ, suc, ◌+◌, ◌*◌, ◌≤◌, Bool, true, false, cond, eqb, List, ◌++◌, length, take, drop, Some, None, Ok, Err, Option, Result, sym, refl, ap, ◌∙◌, subst, arith, drop_at, length-append, take_at}
 use Rattle.frame.specs.declared.headers.Header.{Header}
 use Rattle.frame.specs.declared.refusals.Refusal.{Refusal}
 use Rattle.frame.specs.Answers.{payload, refusal}
@@ -17,26 +17,28 @@ use Rattle.receiving.specs.Steps.{View, fed, fresh, started, take_buffer, take_t
 use Rattle.receiving.proofs.DecisionLaws.{decisions_exact}
 use Rattle.receiving.proofs.YieldLaw.{yield_law}
 
-pub fed_one_more : (v : View) (rows : List (List ℕ)) (row : List ℕ) → fed_all v (rows ++ row ∷ []) ≡ (fed (fed_all v rows) row).0
-fed_one_more v [] row = refl
-fed_one_more v (r ∷ rows) row = fed_one_more (fed v r).0 rows row
-
-pub rows_in_more : (i : ℕ) (cells : List ℕ) → rows_in (i + 1) cells ≡ rows_in i cells ++ take 36 (drop (36 * i) cells) ∷ []
-rows_in_more zero cells = refl
-rows_in_more (suc i) cells =
-    let e : suc i + 1 ≡ suc (i + 1) = omega arith in
-    let d : 36 + 36 * i ≡ 36 * suc i = omega arith in
-    ap (λ n. rows_in n cells) e
-    ∙ ap {B = List (List ℕ)} (λ r. take 36 cells ∷ r) (rows_in_more i (drop 36 cells))
-    ∙ ap (λ q. take 36 cells ∷ (rows_in i (drop 36 cells) ++ take 36 q ∷ [])) (drop-drop (36 * i) 36 cells ∙ ap (λ n. drop n cells) d)
+-- Rows that are left to feed, out of so many cells.
+pub record Feeding (v now : View) (n : ℕ) (rest : List ℕ) : Type 0 where
+  pub enough : 36 * n ≤ length rest
+  pub ends_as : fed_all now (rows_in n rest) ≡ v
 
 -- One more row is fed.
-pub fed_row : (v now next : View) (cells row : List ℕ) (i : ℕ) → now ≡ fed_all v (rows_in i cells) → row ≡ take 36 (drop (36 * i) cells) → next ≡ (fed now row).0 → next ≡ fed_all v (rows_in (i + 1) cells)
-fed_row v now next cells row i n r e =
-    e ∙ ap (λ w. (fed w row).0) n ∙ ap (λ q. (fed (fed_all v (rows_in i cells)) q).0) r ∙ sym (fed_one_more v (rows_in i cells) (take 36 (drop (36 * i) cells))) ∙ ap (fed_all v) (sym (rows_in_more i cells))
+pub feeding_more : (v now next : View) (n m : ℕ) (rest left row : List ℕ) → m + 1 ≡ n → rest ≡ row ++ left → length row ≡ 36 → next ≡ (fed now row).0 → Feeding v now n rest → Feeding v next m left
+feeding_more v now next n m rest left row e r l f g =
+    let enough = g.enough in
+    let s : suc m ≡ n = omega arith in
+    record {
+      enough = omega (arith, ap length r, length-append row left);
+      ends_as = ap (λ w. fed_all w (rows_in m left)) f
+          ∙ ap (λ q. fed_all (fed now q).0 (rows_in m left)) (sym (take_at row left 36 l))
+          ∙ ap (λ q. fed_all (fed now (take 36 (row ++ left))).0 (rows_in m q)) (sym (drop_at row left 36 l))
+          ∙ ap (λ q. fed_all now (rows_in (suc m) q)) (sym r)
+          ∙ ap (λ k. fed_all now (rows_in k rest)) s
+          ∙ g.ends_as;
+    }
 
 some_none : {A : Type 0} (a : A) → ◌≡◌ {A = Option A} (Some a) None → ⊥
-some_none a q = let z : ◌≡◌ {A = ℕ} 0 1 = cc in omega arith
+some_none a q = cc
 
 -- An accepted send has a reference, and answers the frame's row count.
 begun_refers : (o : Option Refusal) (h : Header) (reference : List ℕ) (room : ℕ) → begin_legal o h reference room ≡ None → is_reference reference ≡ true
@@ -48,12 +50,12 @@ begun_refers None h reference room q = of (is_reference reference) refl _ q
     of false e inner p = absurd (some_none _ p)
 
 sent_begun : (o : Option BeginRefusal) (h : Header) (count rows : ℕ) → send_unless (send_begun o h count) h ≡ Ok rows → (o ≡ None) × (rows ≡ row_count h.fl)
-sent_begun (Some e) h count rows q = let z : ◌≡◌ {A = ℕ} 0 1 = cc in let w : ⊥ = omega arith in absurd w
+sent_begun (Some e) h count rows q = absurd (cc)
 sent_begun None h count rows q = (refl, of (eqb count (payload h)) q)
   where
     of : (b : Bool) → send_unless (cond b None (Some PayloadLength)) h ≡ Ok rows → rows ≡ row_count h.fl
     of true p = cc
-    of false p = let z : ◌≡◌ {A = ℕ} 0 1 = cc in let w : ⊥ = omega arith in absurd w
+    of false p = absurd (cc)
 
 -- What is sent, fed and taken is what was sent.
 pub delivered : (h : Header) (reference bytes cells cells' before after : List ℕ) (n rows : ℕ) (v : View) (told : Result (Header × ℕ) TakeRefusal)
@@ -73,4 +75,4 @@ pub same_taken : (a b : Header × ℕ) → ◌≡◌ {A = Result (Header × ℕ)
 same_taken a b q = let e : a ≡ b = cc in ap Some e
 
 pub not_delivered : (e : TakeRefusal) (b : Header × ℕ) → ◌≡◌ {A = Result (Header × ℕ) TakeRefusal} (Err e) (Ok b) → ⊥
-not_delivered e b q = let z : ◌≡◌ {A = ℕ} 0 1 = cc in omega arith
+not_delivered e b q = cc

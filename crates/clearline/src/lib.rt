@@ -12,14 +12,14 @@ use receiving::Receiver;
 use rows::CARRIERS;
 use sending::send;
 
+// A count beside the cells: a sender's buffer may be longer than its frame.
 /// Feeds so many rows, which stand one behind the other, to a receiver.
 fn feed_rows(receiver: &mut Receiver, rows: usize, cells: &[u8])
     requires { 36 * rows ≤ length cells.now }
     ensures { view receiver.new ≡ fed_all (view receiver.old) (rows_in rows cells.now) }
 {
-    for row in 0..rows {
-        let place = CARRIERS * row;
-        let _ = receiver.feed(&cells[place..place + CARRIERS]);
+    for row in cells.chunks_exact(CARRIERS).take(rows) {
+        let _ = receiver.feed(row);
     }
 }
 

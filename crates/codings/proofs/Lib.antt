@@ -1,6 +1,5 @@
--- Lemmas of the plain stages.
 -- Lemmas of the stages.
-pub mod CheckCalls
 pub mod DivisionLaws
-pub mod RepeatSteps
-pub mod RunLaws
+pub mod InPlace
+pub mod FillInPlace
+pub mod UnpackInPlace

@@ -1,10 +1,11 @@
 -- Filling: zeros behind a list of bits of fixed length.
-use Rattle.std.specs.Prelude.{ℕ, ◌-◌, Bool, cond, ◌&&◌, List, ◌++◌, map, take, replicate, Some, None, Ok, Err, Option, Result, ◌==◌, nat_le}
+use Rattle.std.specs.Prelude.{ℕ, ◌-◌, Bool, cond, ◌&&◌, List, ◌++◌, map, take, replicate, Ok, Err, Result, nat_le}
 use Rattle.stage.specs.declared.faults.Refusal.{Refusal}
 use Rattle.stage.specs.declared.faults.Refusal.TheVariants.{Setting}
 use Rattle.stage.specs.Model.{Model, plain}
 use Rattle.stage.specs.Plain.{Plain}
-use Rattle.codings.specs.Agreement.{nearest_bit}
+use Rattle.codings.specs.NearestBits.{nearest_bit}
+pub use Rattle.codings.specs.Fronts.{only_length}
 
 -- The most bits that are put out.
 abbrev pub most_filled : ℕ
@@ -17,10 +18,6 @@ fillable bits total = nat_le bits total && nat_le total most_filled
 -- Zeros are appended up to the total.
 abbrev pub filled : ℕ → ℕ → List ℕ → List ℕ
 filled bits total xs = xs ++ replicate (total - bits) 0
-
--- One length leads to one other.
-abbrev pub only_length : ℕ → ℕ → ℕ → Option ℕ
-only_length from to n = cond (n == from) (Some to) None
 
 -- The stage that fills up with zeros; the message nearest to a received list stands in its front.
 abbrev pub filling : ℕ → ℕ → Plain

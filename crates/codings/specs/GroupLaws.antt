@@ -1,16 +1,16 @@
 -- Lists made of groups of one length.
-use Rattle.std.specs.Prelude.{◌≡◌, ℕ, zero, suc, ◌+◌, ◌*◌, ◌/◌, ◌%◌, ◌<◌, ◌≤◌, true, ◌&&◌, List, [], ◌∷◌, ◌++◌, map, length, take, Some, None, ◌==◌, nat_le, slice_index, slice_index_or, slice_set, refl}
-use Rattle.std.proofs.Common.{sym, ap, ◌∙◌, arith, below_more}
-use Rattle.std.proofs.Math.Seq.{paste}
-use Rattle.std.specs.List.{range_with_len, flat_map}
-use Rattle.std.proofs.lemmas.List.{length-append, length-take-le, get_or-take, get_or_append_left, get_or-append-add, get_or-set_same, get_or-set_other, take_all, take_more, flat_map_more}
-use Rattle.std.proofs.lemmas.List.FromFn.{fill_by_all}
-use Rattle.std.proofs.lemmas.List.Edits.{take-paste}
+use Rattle.std.specs.Prelude.{◌≡◌, ℕ, zero, suc, ◌+◌, ◌-◌, ◌*◌, ◌/◌, ◌%◌, ◌<◌, ◌≤◌, true, ◌&&◌, ◌⊎◌, List, [], ◌∷◌, ◌++◌, length, take, drop, Some, None, ◌==◌, nat_le, slice_index, slice_index_or, slice_set, refl}
+use Rattle.std.proofs.Common.{sym, ap, ◌∙◌, inl, inr, arith}
+use borrow.Rule.Slice.PartMut.{put_mid}
+use Rattle.std.specs.List.{flat_map}
+use Rattle.std.proofs.lemmas.List.{length-append, length-take-le, length-drop, get_or-drop, get_or_append_left, get_or-append-add, take_all, take_more, flat_map_more, drop_at, drop-drop}
+use Rattle.std.proofs.lemmas.List.Edits.{fill_by_more}
+use Rattle.std.proofs.lemmas.Slice.{take-put_mid}
 use Rattle.std.proofs.lemmas.Nat.{div-add-mod', div-mul-add, mod-mul-add, div_below, mod_below, mul-le}
-use Rattle.std.proofs.lemmas.Bool.{and_parts, and_from, eqb-true, eq-eqb, leb-true, le-leb, cond-true}
+use Rattle.std.proofs.lemmas.Bool.{and_parts, and_from, eqb-true, eq-eqb, leb-true, le-leb, cond-true, cases_lt}
 use Rattle.stage.specs.Plain.{within}
 use Rattle.codings.specs.Groups.{grouped_length, group_count}
-use Rattle.codings.specs.AgreementLaws.{some_under_test}
+use Rattle.stage.specs.AgreementLaws.{some_under_test}
 use Rattle.codings.specs.NearestBitLaws.{within_append}
 
 pub length_groups : (f : ℕ → List ℕ) (t : ℕ) → ((x : ℕ) → length (f x) ≡ t) → (xs : List ℕ) → length (flat_map f xs) ≡ length xs * t
@@ -87,37 +87,68 @@ pub grouped_short : (most wide t n k : ℕ) → t ≤ wide → grouped_length mo
 grouped_short most wide t n k l h =
     let u = grouped_is most t n k h in omega (arith, u.1, mul-le n t most wide u.0 l)
 
+-- the part of a list where a group goes
+pub part_long : (i t : ℕ) (xs : List ℕ) → i * t + t ≤ length xs → length (take ((i + 1) * t - i * t) (drop (i * t) xs)) ≡ t
+part_long i t xs l =
+    let wide : (i + 1) * t - i * t ≡ t = omega arith in
+    ap (λ m. length (take m (drop (i * t) xs))) wide ∙ length-take-le t (drop (i * t) xs) (omega (arith, length-drop (i * t) xs))
+
 -- one group more, written behind those before
-pub groups_more : (f : ℕ → List ℕ) (t : ℕ) → ((x : ℕ) → length (f x) ≡ t) → (i : ℕ) (xs buffer : List ℕ)
-    → i < length xs → i * t + t ≤ length buffer → take (i * t) buffer ≡ flat_map f (take i xs)
-    → take ((i + 1) * t) (paste buffer (i * t) (f (slice_index xs i)) t) ≡ flat_map f (take (i + 1) xs)
-groups_more f t each i xs buffer l r e =
+pub groups_more : (f : ℕ → List ℕ) (t : ℕ) → ((x : ℕ) → length (f x) ≡ t) → (i k : ℕ) (xs buffer group : List ℕ)
+    → i < length xs → i * t + t ≤ length buffer → group ≡ f (slice_index xs i) → take (i * t) buffer ≡ flat_map f (take i xs)
+    → take ((i + 1) * t) (put_mid (i * t) k buffer group) ≡ flat_map f (take (i + 1) xs)
+groups_more f t each i k xs buffer group l r made e =
     let x = slice_index_or xs i 0 in
-    let long = each x in
-    let at : (i + 1) * t ≡ i * t + t = omega arith in
-    ap (λ m. take m (paste buffer (i * t) (f x) t)) at
-    ∙ take-paste buffer (i * t) (f x) t (omega arith) (omega arith)
-    ∙ ap (λ zs. take (i * t) buffer ++ zs) (take_all t (f x) (omega arith))
-    ∙ ap (λ zs. zs ++ f x) e
+    let long : length group ≡ t = ap length made ∙ each x in
+    take-put_mid (i * t) k buffer group ((i + 1) * t) (omega arith) (omega arith)
+    ∙ ap (λ zs. zs ++ group) e
+    ∙ ap (λ zs. flat_map f (take i xs) ++ zs) made
     ∙ flat_map_more f [] (take i xs) x
     ∙ ap (flat_map f) (sym (take_more xs i 0 l))
 
--- one element for each group: those before i are gathered in front, the rest is as it was
-pub record Gathered (f : ℕ → ℕ) (before : List ℕ) (buffer : List ℕ) (i : ℕ) : Type 0 where
-  pub moved : (k : ℕ) → k < i → slice_index buffer k ≡ f k
-  pub rest : (k : ℕ) → i ≤ k → slice_index buffer k ≡ slice_index before k
+pub groups_all : (f : ℕ → List ℕ) (t i : ℕ) (xs buffer : List ℕ) → length xs ≤ i → length xs * t ≡ length buffer → take (i * t) buffer ≡ flat_map f (take i xs) → buffer ≡ flat_map f xs
+groups_all f t i xs buffer l long e =
+    sym (take_all (i * t) buffer (omega (arith, mul-le (length xs) t i t l (omega arith)))) ∙ e ∙ ap (flat_map f) (take_all i xs l)
 
-pub gathered_more : (f : ℕ → ℕ) (before buffer : List ℕ) (i x : ℕ) → i < length buffer → x ≡ f i → Gathered f before buffer i → Gathered f before (slice_set buffer i x) (i + 1)
-gathered_more f before buffer i x l e h =
+-- A chunk of a list that is cut into chunks of one size, and what is left behind it.
+pub record Chunk (list : List ℕ) (size i : ℕ) (chunk rest : List ℕ) : Type 0 where
+  pub long : length chunk ≡ size
+  pub inside : i * size + size ≤ length list
+  pub at : (k : ℕ) → k < size → slice_index chunk k ≡ slice_index list (i * size + k)
+  pub behind : (j : ℕ) → j ≡ i + 1 → rest ≡ drop (j * size) list
+
+-- the next chunk of what is left
+pub chunk_next : (list left chunk rest : List ℕ) (size wide i : ℕ) → 0 < size → wide ≡ size → left ≡ drop (i * size) list → (left ≡ chunk ++ rest) × (length chunk ≡ wide) → Chunk list size i chunk rest
+chunk_next list left chunk rest size wide i p e from split =
+    let here : chunk ++ rest ≡ drop (i * size) list = sym split.0 ∙ from in
+    let long : length chunk ≡ size = split.1 ∙ e in
     record {
-      moved = below_more
-          (λ k. slice_index (slice_set buffer i x) k ≡ f k)
-          i
-          (λ k s. get_or-set_other buffer i k x 0 (omega arith) ∙ h.moved k s)
-          (get_or-set_same buffer i x 0 l ∙ e);
-      rest = λ k s. get_or-set_other buffer i k x 0 (omega arith) ∙ h.rest k (omega arith);
+      long = long;
+      inside = omega (arith, ap length here, length-append chunk rest, length-drop (i * size) list);
+      at = λ k l. sym (get_or_append_left chunk rest 0 k (omega arith)) ∙ ap (λ zs. slice_index zs k) here ∙ get_or-drop (i * size) list k 0;
+      behind = λ j n.
+          let on : i * size + size ≡ j * size = omega (arith, ap (λ m. m * size) n) in
+          sym (drop_at chunk rest size long) ∙ ap (drop size) here ∙ drop-drop size (i * size) list ∙ ap (λ m. drop m list) on;
     }
 
-pub gathered_in_front : (f : ℕ → ℕ) (count : ℕ) (before buffer : List ℕ) → count ≤ length buffer → Gathered f before buffer count → take count buffer ≡ map f (range_with_len 0 count)
-gathered_in_front f count before buffer l h =
-    fill_by_all f (take count buffer) count 0 (length-take-le count buffer l) (λ k s. get_or-take count buffer k 0 s ∙ h.moved k s)
+-- where fewer elements are left than make a chunk, all chunks are done
+pub chunks_done : (list left : List ℕ) (size i n : ℕ) → left ≡ drop (i * size) list → length left < size → length list ≡ n * size → n ≤ i
+chunks_done list left size i n from few long = of (cases_lt i n)
+  where
+    of : (i < n) ⊎ (n ≤ i) → n ≤ i
+    of (inl l) = absurd (omega (arith, group_inside i n size l, ap length from, length-drop (i * size) list))
+    of (inr l) = l
+
+-- a chunk inside so many
+pub chunk_inside : (size i n : ℕ) → i * size + size ≤ n * size → 0 < size → i < n
+chunk_inside size i n l p = of (cases_lt i n)
+  where
+    of : (i < n) ⊎ (n ≤ i) → i < n
+    of (inl h) = h
+    of (inr h) = absurd (omega (arith, mul-le n size i size h (omega arith)))
+
+-- one value more, written behind those before
+pub written_more : (f : ℕ → ℕ) (xs : List ℕ) (place i j x : ℕ) → place ≡ i → i < length xs → j ≡ i + 1 → x ≡ f i → ((k : ℕ) → k < i → slice_index xs k ≡ f k) → (k : ℕ) → k < j → slice_index (slice_set xs place x) k ≡ f k
+written_more f xs place i j x p l n e before k h =
+    let same : slice_set xs place x ≡ slice_set xs i (f i) = cc in
+    ap (λ zs. slice_index zs k) same ∙ fill_by_more f xs i 0 l before k (omega arith)

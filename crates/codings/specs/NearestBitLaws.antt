@@ -3,7 +3,7 @@ use Rattle.std.specs.Prelude.{◌≡◌, ℕ, min, true, List, [], ◌∷◌, �
 use Rattle.std.proofs.Common.{arith}
 use Rattle.std.proofs.lemmas.Bool.{and_parts, and_from, leb-true, le-leb}
 use Rattle.stage.specs.Plain.{within}
-use Rattle.codings.specs.Agreement.{nearest_bit}
+use Rattle.codings.specs.NearestBits.{nearest_bit}
 
 pub nearest_are_bits : (ys : List ℕ) → within 1 (map nearest_bit ys) ≡ true
 nearest_are_bits [] = refl

@@ -1,18 +1,19 @@
 -- The stage that repeats bits is sound.
-use Rattle.std.specs.Prelude.{◌≡◌, ℕ, ◌+◌, ◌*◌, ◌/◌, ◌%◌, ◌<◌, ◌≤◌, true, ◌⊎◌, List, length, replicate, Some, ◌==◌, slice_index, slice_index_or}
-use Rattle.std.proofs.Common.{sym, ap, ◌∙◌, inl, inr, arith}
+use Rattle.std.specs.Prelude.{◌≡◌, ℕ, ◌+◌, ◌-◌, ◌*◌, ◌/◌, ◌%◌, ◌<◌, ◌≤◌, true, ◌⊎◌, List, length, replicate, Some, None, ◌==◌, slice_index, slice_index_or}
+use Rattle.std.proofs.Common.{sym, ap, subst, ◌∙◌, inl, inr, arith}
 use Rattle.std.proofs.lemmas.List.{length-replicate, get_or-replicate}
-use Rattle.std.proofs.lemmas.List.FromFn.{length-map-range_with_len, get_or-map-range_with_len}
-use Rattle.std.proofs.lemmas.Nat.{div-add-mod', div-mul-add, div_below, mod_below}
-use Rattle.std.proofs.lemmas.Bool.{or_cases, eqb-true}
+use Rattle.std.proofs.lemmas.List.FromFn.{length-map-range_with_len, get_or-map-range_with_len, fill_by_all}
+use Rattle.std.proofs.lemmas.Nat.{div-add-mod', div-mul-add, div_below, mod_below, mul-le}
+use Rattle.std.proofs.lemmas.Bool.{or_cases, eqb-true, cases_lt}
 use Rattle.stage.specs.Plain.{within}
 use Rattle.stage.specs.Model.{plain, legal}
 use Rattle.stage.specs.Sound.{Sound}
+use Rattle.stage.specs.Agreement.{AgreesUpTo, Regains}
 use Rattle.stage.specs.Lists.{value_of_some, within_at, within_from, same_by_places}
 use Rattle.stage.specs.Legality.{legal_within, legal_length}
-use Rattle.codings.specs.Agreement.{nearest_bit}
-use Rattle.codings.specs.Repeats.{known_times, most_bits, repeated, repeated_length, group_heads, repetition}
-use Rattle.codings.specs.GroupLaws.{length_groups, group_at_place, groups_within, group_inside, grouped_is, grouped_legal, grouped_there, grouped_back, grouped_short}
+use Rattle.codings.specs.NearestBits.{nearest_bit}
+use Rattle.codings.specs.Repeats.{known_times, most_bits, repeated, repeated_length, single_length, group_heads, repetition, FirstOther}
+use Rattle.codings.specs.GroupLaws.{length_groups, group_at_place, groups_within, group_inside, grouped_is, grouped_legal, grouped_there, grouped_back, grouped_short, counted_is, Chunk}
 
 pub known_is_small : (t : ℕ) → known_times t ≡ true → (0 < t) × (t ≤ 6)
 known_is_small t h = of (or_cases (t == 4) (t == 6) h)
@@ -98,3 +99,96 @@ repetition_sound t known =
       guess_back = λ xs l. heads_of_copies t xs small.0 (legal_within (plain (repetition t)) xs l);
       guess_best = λ xs ys k l long i same. best t xs ys k small.0 (legal_within (plain (repetition t)) xs l) long i same;
     }
+
+-- all elements before a place are copies of the nearest bit to the head of their group
+abbrev pub Copies : ℕ → List ℕ → ℕ → Type 0
+Copies t received place = (j : ℕ) → j < place → nearest_bit (slice_index received (j / t * t)) ≡ slice_index received j
+
+-- a place in the group i
+in_group : (t i j : ℕ) → 0 < t → i * t ≤ j → j < i * t + t → j / t ≡ i
+in_group t i j p l h =
+    let at : i * t + (j - i * t) ≡ j = omega arith in
+    ap (λ m. m / t) (sym at) ∙ div-mul-add i t (j - i * t) (omega arith)
+
+-- the bit nearest to the head of a group
+pub head_bit : (t i bit : ℕ) (received copies rest : List ℕ) → 0 < t → Chunk received t i copies rest → bit ≡ nearest_bit (slice_index copies 0) → bit ≡ nearest_bit (slice_index received (i * t))
+head_bit t i bit received copies rest p chunk e =
+    let here : i * t + 0 ≡ i * t = omega arith in e ∙ ap nearest_bit (chunk.at 0 p) ∙ ap (λ m. nearest_bit (slice_index received m)) here
+
+-- copies before the group i, and so many in it
+copies_on : (t i bit many : ℕ) (received copies rest : List ℕ) → 0 < t → many ≤ t → Chunk received t i copies rest
+    → bit ≡ nearest_bit (slice_index received (i * t)) → ((k : ℕ) → k < many → slice_index copies k ≡ bit)
+    → Copies t received (i * t) → Copies t received (i * t + many)
+copies_on t i bit many received copies rest p few chunk head same before j l = of (cases_lt j (i * t))
+  where
+    of : (j < i * t) ⊎ (i * t ≤ j) → nearest_bit (slice_index received (j / t * t)) ≡ slice_index received j
+    of (inl h) = before j h
+    of (inr h) =
+        let at : i * t + (j - i * t) ≡ j = omega arith in
+        ap (λ m. nearest_bit (slice_index received (m * t))) (in_group t i j p h (omega arith))
+        ∙ sym head
+        ∙ sym (same (j - i * t) (omega arith))
+        ∙ chunk.at (j - i * t) (omega arith)
+        ∙ ap (λ m. slice_index received m) at
+
+pub copies_next : (t i j bit : ℕ) (received copies rest : List ℕ) → 0 < t → j ≡ i + 1 → Chunk received t i copies rest
+    → bit ≡ nearest_bit (slice_index received (i * t)) → FirstOther bit copies None
+    → Copies t received (i * t) → Copies t received (j * t)
+copies_next t i j bit received copies rest p e chunk head same before k l =
+    let on : j * t ≡ i * t + t = omega (arith, ap (λ m. m * t) e) in
+    copies_on t i bit t received copies rest p (omega arith) chunk head (λ m h. same m (omega (arith, chunk.long))) before k (omega arith)
+
+-- copies of the heads of all groups are the coding of the heads
+pub heads_regained : (t count done : ℕ) (received list : List ℕ) → 0 < t → count ≤ done → length list ≡ count → length received ≡ count * t
+    → ((k : ℕ) → k < done → slice_index list k ≡ nearest_bit (slice_index received (k * t)))
+    → Copies t received (done * t) → Regains (repetition t) received None list
+heads_regained t count done received list p most long whole heads copies =
+    let all : count * t ≤ done * t = mul-le count t done t most (omega arith) in
+    let made = fill_by_all (λ i. nearest_bit (slice_index received (i * t))) list count 0 long (λ k s. heads k (omega arith)) in
+    let guess : list ≡ group_heads t (length list) received = made ∙ ap (λ m. group_heads t m received) (sym long) in
+    let whole' : length received ≡ length list * t = whole ∙ ap (λ m. m * t) (sym long) in (
+      record {
+        few = omega arith;
+        same = λ k h. coded_heads_at t (length list) received k p (omega arith) ∙ copies k (omega arith);
+        stop = λ h _. absurd (omega arith);
+      },
+      guess,
+    )
+
+-- the first element of a group that is no copy is the place of the fault
+pub no_copy_found : (t i count place bit many : ℕ) (received list copies rest : List ℕ) → 0 < t → place ≡ i → length list ≡ count → length received ≡ count * t → Chunk received t i copies rest
+    → bit ≡ nearest_bit (slice_index received (i * t)) → FirstOther bit copies (Some many)
+    → Copies t received (i * t) → Regains (repetition t) received (Some (place * t + many)) list
+no_copy_found t i count place bit many received list copies rest p e long total chunk head f before =
+    subst (λ (j : ℕ). Regains (repetition t) received (Some (j * t + many)) list) (sym e) (agreed, inside)
+  where
+    whole : length received ≡ length list * t
+    whole = total ∙ ap (λ m. m * t) (sym long)
+
+    few : many < t
+    few = omega (arith, f.0, chunk.long)
+
+    inside : i * t + many < length received
+    inside = omega (arith, chunk.inside, few)
+
+    on : Copies t received (i * t + many)
+    on = copies_on t i bit many received copies rest p (omega (arith, few)) chunk head f.1 before
+
+    coded : (k : ℕ) → k < length received → slice_index (repeated t (group_heads t (length list) received)) k ≡ nearest_bit (slice_index received (k / t * t))
+    coded k h = coded_heads_at t (length list) received k p (omega (arith, whole))
+
+    agreed : AgreesUpTo (repetition t) (length list) received (i * t + many)
+    agreed =
+        record {
+          few = omega (arith, inside);
+          same = λ k h. coded k (omega (arith, inside)) ∙ on k h;
+          stop = λ h same.
+              f.2 (chunk.at many few
+              ∙ sym same
+              ∙ coded (i * t + many) inside
+              ∙ ap (λ m. nearest_bit (slice_index received (m * t))) (in_group t i (i * t + many) p (omega arith) (omega (arith, few)))
+              ∙ sym head);
+        }
+
+pub copies_of : (t n count : ℕ) → known_times t ≡ true → single_length t n ≡ Some count → n ≡ count * t
+copies_of t n count known e = sym (counted_is most_bits t count n (known_is_small t known).0 e).1

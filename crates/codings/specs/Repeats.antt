@@ -1,11 +1,11 @@
 -- Repetition: each bit several times in a row.
-use Rattle.std.specs.Prelude.{ℕ, ◌*◌, Bool, cond, ◌||◌, List, map, replicate, Ok, Err, Option, Result, ◌==◌, slice_index}
+use Rattle.std.specs.Prelude.{◌≡◌, ℕ, ◌*◌, ◌<◌, Bool, cond, ◌||◌, List, map, length, replicate, Some, None, Ok, Err, Option, Result, ◌==◌, ◌≢◌, slice_index}
 use Rattle.std.specs.List.{range_with_len, flat_map}
 use Rattle.stage.specs.declared.faults.Refusal.{Refusal}
 use Rattle.stage.specs.declared.faults.Refusal.TheVariants.{Setting}
 use Rattle.stage.specs.Model.{Model, plain}
 use Rattle.stage.specs.Plain.{Plain}
-use Rattle.codings.specs.Agreement.{nearest_bit}
+use Rattle.codings.specs.NearestBits.{nearest_bit}
 use Rattle.codings.specs.Groups.{grouped_length, group_count}
 
 -- A bit is put out 4 times, or 6 times.
@@ -47,3 +47,8 @@ repetition times =
 -- The stage that a number of copies makes, or the refusal of another number than 4 and 6.
 abbrev pub made_repeat : ℕ → Result Model Refusal
 made_repeat times = cond (known_times times) (Ok (plain (repetition times))) (Err Setting)
+
+-- The first element that is not the given bit stands at a place inside the list, or there is none.
+abbrev pub FirstOther : ℕ → List ℕ → Option ℕ → Type 0
+FirstOther bit list None = (k : ℕ) → k < length list → slice_index list k ≡ bit
+FirstOther bit list (Some place) = (place < length list) × ((k : ℕ) → k < place → slice_index list k ≡ bit) × (slice_index list place ≢ bit)

@@ -1,29 +1,26 @@
 -- The stage that scrambles is sound.
-use Rattle.std.specs.Prelude.{◌≡◌, ℕ, zero, suc, ◌+◌, ◌*◌, ◌<◌, ◌≤◌, min, Bool, true, false, cond, List, [], ◌∷◌, map, length, take, Some, None, Ok, bit_xor, nat_le, slice_index, slice_index_or, slice_set, refl}
-use Rattle.std.proofs.Common.{sym, ap, ◌∙◌, arith, below_more}
+use Rattle.std.specs.Prelude.{◌≡◌, ℕ, zero, suc, ◌+◌, ◌*◌, ◌<◌, ◌≤◌, min, true, List, [], ◌∷◌, ◌++◌, map, length, take, Some, None, bit_xor, nat_le, slice_index, slice_index_or, slice_set, refl}
+use Rattle.std.proofs.Common.{Fits, w8, sym, ap, ◌∙◌, arith}
 use Rattle.std.proofs.lemmas.Nat.{xor_lt}
 use Rattle.std.specs.Int.Bits.{xor_assoc, xor_self, xor_zero_r}
-use Rattle.std.proofs.lemmas.List.{length-map, length-take-le, get_or-take, get_or-map, get_or-set_same, get_or-set_other}
+use Rattle.std.proofs.lemmas.List.{length-map, get_or-map, take_all, take_more, take_more_set}
 use Rattle.std.proofs.lemmas.Bool.{and_parts, and_from, leb-true, le-leb, cond-true}
 use Rattle.stage.specs.Plain.{within}
-use Rattle.stage.specs.Model.{plain, legal, decoding}
+use Rattle.stage.specs.Model.{plain, legal}
 use Rattle.stage.specs.Sound.{Sound}
-use Rattle.stage.specs.Calls.{Holds}
-use Rattle.stage.specs.Lists.{value_of_some, some_is_there, within_at, within_from, same_by_places}
-use Rattle.stage.specs.Legality.{legal_within, legal_length, legal_from_parts}
-use Rattle.stage.proofs.Plains.{plain_accepts}
-use Rattle.codings.specs.Scramblers.{up_to, byte, scrambled, longest, short_length, nearest_byte, scrambling, window, four_on, Scrambling}
+use Rattle.stage.specs.Agreement.{Regains}
+use Rattle.stage.specs.AgreementLaws.{some_under_test}
+use Rattle.stage.specs.Lists.{value_of_some, within_at, within_from}
+use Rattle.stage.specs.Legality.{legal_within, legal_length}
+use Rattle.codings.specs.Scramblers.{up_to, byte, scrambled, longest, short_length, nearest_byte, scrambling, window, four_on}
 use Rattle.codings.specs.SequenceLaws.{byte_next, window_next, byte_small}
 
 -- a length that is legal leads to itself
 short_is : (n k : ℕ) → short_length n ≡ Some k → (n ≤ longest) × (n ≡ k)
-short_is n k h = of (nat_le n longest) refl h
-  where
-    of : (b : Bool) → nat_le n longest ≡ b → cond b (Some n) None ≡ Some k → (n ≤ longest) × (n ≡ k)
-    of true e j = (leb-true n longest e, (cc))
-    of false e j = let z : ◌≡◌ {A = ℕ} 0 1 = cc in absurd (omega arith)
+short_is n k h =
+    let u = some_under_test (nat_le n longest) n k h in (leb-true n longest u.0, u.1)
 
-short_legal : (n : ℕ) → n ≤ longest → short_length n ≡ Some n
+pub short_legal : (n : ℕ) → n ≤ longest → short_length n ≡ Some n
 short_legal n l = cond-true (nat_le n longest) (Some n) None (le-leb n longest l)
 
 same_back : (n k : ℕ) → short_length n ≡ Some k → short_length k ≡ Some n
@@ -40,11 +37,11 @@ legal_short start xs l =
 xor_twice : (x key : ℕ) → bit_xor (bit_xor x key) key ≡ x
 xor_twice x key = xor_assoc x key key ∙ ap (bit_xor x) (xor_self key) ∙ xor_zero_r x
 
-scrambled_twice : (n : ℕ) (xs : List ℕ) → scrambled n (scrambled n xs) ≡ xs
+pub scrambled_twice : (n : ℕ) (xs : List ℕ) → scrambled n (scrambled n xs) ≡ xs
 scrambled_twice n [] = refl
 scrambled_twice n (x ∷ xs) = let e = xor_twice x (byte n) in let t = scrambled_twice (n + 8) xs in cc
 
-length_scrambled : (n : ℕ) (xs : List ℕ) → length (scrambled n xs) ≡ length xs
+pub length_scrambled : (n : ℕ) (xs : List ℕ) → length (scrambled n xs) ≡ length xs
 length_scrambled n [] = refl
 length_scrambled n (x ∷ xs) = ap suc (length_scrambled (n + 8) xs)
 
@@ -57,7 +54,7 @@ scrambled_bytes n (x ∷ xs) h =
     and_from (nat_le (bit_xor x (byte n)) 255) (within 255 (scrambled (n + 8) xs)) (le-leb (bit_xor x (byte n)) 255 (omega arith)) (scrambled_bytes (n + 8) xs parts.1)
 
 -- an element of what is scrambled
-scrambled_at : (n : ℕ) (xs : List ℕ) (k : ℕ) → k < length xs → slice_index (scrambled n xs) k ≡ bit_xor (slice_index xs k) (byte (n + 8 * k))
+pub scrambled_at : (n : ℕ) (xs : List ℕ) (k : ℕ) → k < length xs → slice_index (scrambled n xs) k ≡ bit_xor (slice_index xs k) (byte (n + 8 * k))
 scrambled_at n [] k l = absurd (omega arith)
 scrambled_at n (x ∷ xs) zero l = let e : n ≡ n + 8 * 0 = omega arith in ap (λ m. bit_xor x (byte m)) e
 scrambled_at n (x ∷ xs) (suc k) l =
@@ -107,43 +104,26 @@ window_again i u e =
     let m : 8 * i + 8 ≡ 8 * (i + 1) = omega arith in
     e ∙ sym (window_next (8 * i)) ∙ ap (λ k. window (up_to k)) m
 
-pub mixed_more : (before buffer : List ℕ) (i u : ℕ) → i < length buffer → u ≡ byte (8 * i) → Scrambling before buffer i → Scrambling before (slice_set buffer i (bit_xor (slice_index buffer i) u)) (i + 1)
-mixed_more before buffer i u l e f =
-    let same = f.rest i (omega arith) in
-    record {
-      mixed = below_more
-          (λ k. slice_index (slice_set buffer i (bit_xor (slice_index buffer i) u)) k ≡ bit_xor (slice_index before k) (byte (8 * k)))
-          i
-          (λ k h. get_or-set_other buffer i k (bit_xor (slice_index buffer i) u) 0 (omega arith) ∙ f.mixed k h)
-          (get_or-set_same buffer i (bit_xor (slice_index buffer i) u) 0 l ∙ ap (λ x. bit_xor x u) same ∙ ap (bit_xor (slice_index before i)) e);
-      rest = λ k h. get_or-set_other buffer i k (bit_xor (slice_index buffer i) u) 0 (omega arith) ∙ f.rest k (omega arith);
-    }
+pub mixed_more : (list mixed : List ℕ) (i u : ℕ) → i < length list → length mixed ≡ length list → u ≡ byte (8 * i) → take i mixed ≡ take i (scrambled 0 list)
+    → take (i + 1) (slice_set mixed i (bit_xor (slice_index list i) u)) ≡ take (i + 1) (scrambled 0 list)
+mixed_more list mixed i u l long e before =
+    let z : 0 + 8 * i ≡ 8 * i = omega arith in
+    let there : i < length (scrambled 0 list) = omega (arith, length_scrambled 0 list) in
+    let next : slice_index_or (scrambled 0 list) i 0 ≡ bit_xor (slice_index list i) u = scrambled_at 0 list i l ∙ ap (λ m. bit_xor (slice_index list i) (byte m)) z ∙ ap (bit_xor (slice_index list i)) (sym e) in
+    take_more_set mixed i (bit_xor (slice_index list i) u) (omega arith)
+    ∙ ap (λ zs. zs ++ bit_xor (slice_index list i) u ∷ []) before
+    ∙ ap (λ x. take i (scrambled 0 list) ++ x ∷ []) (sym next)
+    ∙ sym (take_more (scrambled 0 list) i 0 there)
 
--- a front that is wholly XORed is the coding
-pub mixed_front : (n : ℕ) (before after : List ℕ) → n ≤ length before → length after ≡ length before → Scrambling before after n → Holds after n (scrambled 0 (take n before))
-mixed_front n before after l long f =
-    let la : length (take n after) ≡ n = length-take-le n after (omega arith) in
-    let lb : length (take n before) ≡ n = length-take-le n before l in
-    let ls = length_scrambled 0 (take n before) in
-    record {
-      long = omega arith;
-      front = same_by_places (take n after) (scrambled 0 (take n before)) (omega arith) (λ i h.
-          let short : i < n = omega arith in
-          let z : 0 + 8 * i ≡ 8 * i = omega arith in
-          get_or-take n after i 0 short
-          ∙ f.mixed i short
-          ∙ ap (λ x. bit_xor x (byte (8 * i))) (sym (get_or-take n before i 0 short))
-          ∙ ap (λ m. bit_xor (slice_index (take n before) i) (byte m)) (sym z)
-          ∙ sym (scrambled_at 0 (take n before) i (omega arith)));
-    }
+pub mixed_all : (list mixed : List ℕ) (i : ℕ) → length list ≤ i → length mixed ≡ length list → take i mixed ≡ take i (scrambled 0 list) → mixed ≡ scrambled 0 list
+mixed_all list mixed i l long e =
+    sym (take_all i mixed (omega arith)) ∙ e ∙ take_all i (scrambled 0 list) (omega (arith, length_scrambled 0 list))
 
--- what is left by scrambling again is the list that was scrambled
-pub unscrambled : (n count : ℕ) (before after : List ℕ) → n ≤ longest → n ≤ length before → ((i : ℕ) → slice_index after i < 256) → Holds after count (scrambled 0 (take n before)) → decoding (plain (scrambling 0)) (take n before) ≡ Ok (take count after)
-unscrambled n count before after short l bytes h =
-    let lb : length (take n before) ≡ n = length-take-le n before l in
-    let lt : length (take count after) ≡ count = length-take-le count after h.long in
-    let lc : length (take count after) ≡ n = ap length h.front ∙ length_scrambled 0 (take n before) ∙ lb in
-    let small : within 255 (take count after) ≡ true = within_from 255 (take count after) (λ i k. omega (arith, get_or-take count after i 0 (omega arith), bytes i)) in
-    let legal_list : legal (plain (scrambling 0)) (take count after) ≡ true =
-    legal_from_parts (plain (scrambling 0)) (take count after) refl small (some_is_there (short_length (length (take count after))) n (ap short_length lc ∙ short_legal n short)) in
-    plain_accepts (scrambling 0) (scrambling_sound 0) (take n before) (take count after) legal_list (ap (scrambled 0) h.front ∙ scrambled_twice 0 (take n before))
+-- scrambled again, bytes are the list that was scrambled
+pub scrambled_again : (bytes list : List ℕ) → ((i : ℕ) → Fits w8 (slice_index bytes i)) → list ≡ scrambled 0 bytes → Regains (scrambling 0) bytes None list
+scrambled_again bytes list small e =
+    let nearest = bytes_are_nearest bytes (within_from 255 bytes (λ i _. omega (arith, small i))) in
+    let again : scrambled 0 (scrambled 0 (map nearest_byte bytes)) ≡ bytes = scrambled_twice 0 (map nearest_byte bytes) ∙ nearest in (
+      record { few = omega arith; same = λ k _. ap (λ zs. slice_index zs k) again; stop = λ h _. absurd (omega arith) },
+      e ∙ ap (scrambled 0) (sym nearest),
+    )

@@ -1,9 +1,6 @@
 -- The scrambler: bytes are XORed with a bit sequence, the highest bit of each byte first.
-use Rattle.std.specs.Prelude.{◌≡◌, ℕ, zero, suc, ◌+◌, ◌*◌, ◌/◌, ◌%◌, ◌<◌, ◌≤◌, min, cond, List, [], ◌∷◌, map, length, take, replicate, Some, None, Ok, Err, Option, Result, bit_and, bit_or, bit_xor, nat_le, slice_index}
-use Rattle.stage.specs.declared.faults.StageFault.{StageFault}
-use Rattle.stage.specs.Faults.{fault_at}
+use Rattle.std.specs.Prelude.{◌≡◌, ℕ, zero, suc, ◌+◌, ◌*◌, ◌/◌, ◌%◌, ◌<◌, min, cond, List, [], ◌∷◌, map, replicate, Some, None, Option, bit_and, bit_or, bit_xor, nat_le, slice_index}
 use Rattle.stage.specs.Plain.{Plain}
-use Rattle.stage.specs.Model.{plain, decoding}
 
 -- One bit more of a sequence that is written latest bit first: the XOR of those 7 and 4 earlier.
 abbrev pub one_more : List ℕ → List ℕ
@@ -75,14 +72,3 @@ window bits =
 -- The window four bits on: each of the four is the XOR of bits that the window has already.
 abbrev pub four_on : ℕ → ℕ
 four_on w = bit_or (w * 16 % 256) (bit_and (bit_xor (w / 8) w) 15)
-
--- The first `count` elements of a buffer are XORed with the sequence from its start on, and the
--- rest is as it was.
-pub record Scrambling (before : List ℕ) (after : List ℕ) (count : ℕ) : Type 0 where
-  pub mixed : (k : ℕ) → k < count → slice_index after k ≡ bit_xor (slice_index before k) (byte (8 * k))
-  pub rest : (k : ℕ) → count ≤ k → slice_index after k ≡ slice_index before k
-
--- The first n elements are scrambled, or the fault is the stage's.
-abbrev pub Unscrambled : ℕ → List ℕ → List ℕ → Result ℕ StageFault → Type 0
-Unscrambled n before after (Ok count) = (decoding (plain (scrambling 0)) (take n before) ≡ Ok (take count after)) × (count ≤ length after)
-Unscrambled n before after (Err f) = decoding (plain (scrambling 0)) (take n before) ≡ Err (fault_at f.number f.place)

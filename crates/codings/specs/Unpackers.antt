@@ -1,8 +1,8 @@
 -- Unpacking: each byte as eight bits, highest first.
-use Rattle.std.specs.Prelude.{ℕ, ◌+◌, ◌-◌, ◌*◌, ◌/◌, ◌%◌, ◌^◌, ◌≤◌, List, map, Option, slice_index, slice_index_or}
+use Rattle.std.specs.Prelude.{ℕ, ◌+◌, ◌-◌, ◌*◌, ◌/◌, ◌%◌, ◌^◌, List, map, Option, slice_index}
 use Rattle.std.specs.List.{range_with_len, flat_map}
 use Rattle.stage.specs.Plain.{Plain}
-use Rattle.codings.specs.Agreement.{nearest_bit}
+use Rattle.codings.specs.NearestBits.{nearest_bit}
 use Rattle.codings.specs.Groups.{grouped_length, group_count}
 
 -- The most bytes that are taken.
@@ -52,14 +52,3 @@ unpacking =
       coding = unpacked;
       guess = packed;
     }
-
--- The eight elements from a place on are bits.
-pub record EightBits (at : ℕ) (buffer : List ℕ) : Type 0 where
-  pub bit_0 : slice_index_or buffer at 0 ≤ 1
-  pub bit_1 : slice_index_or buffer (at + 1) 0 ≤ 1
-  pub bit_2 : slice_index_or buffer (at + 2) 0 ≤ 1
-  pub bit_3 : slice_index_or buffer (at + 3) 0 ≤ 1
-  pub bit_4 : slice_index_or buffer (at + 4) 0 ≤ 1
-  pub bit_5 : slice_index_or buffer (at + 5) 0 ≤ 1
-  pub bit_6 : slice_index_or buffer (at + 6) 0 ≤ 1
-  pub bit_7 : slice_index_or buffer (at + 7) 0 ≤ 1

@@ -1,17 +1,12 @@
 //! A stage that appends a remainder by which damage to a short message is found.
 
-ghost use Rattle.std.specs.Prelude.{◌≡◌, ◌≤◌, true, length, take};
-ghost use Rattle.stage.specs.Model.{plain, legal, code_room};
-ghost use Rattle.stage.specs.Calls.{Holds};
+ghost use Rattle.std.specs.Prelude.{◌≡◌};
 ghost use Rattle.codings.specs.Polynomials.{remainder};
-ghost use Rattle.codings.specs.Checks.{checking, generator, with_check, cells, shifted, coded_bits, Leading, Agreeing, Unchecked, CheckExamples};
-ghost use Rattle.stage.proofs.Plains.{plain_keeps};
+ghost use Rattle.codings.specs.Checks.{checking, generator, cells, shifted, CheckExamples};
 ghost use Rattle.codings.specs.CheckLaws.{checking_sound};
 
-use stage::{ChainFault, Outline, Span, Stage, StageFault};
-
-/// The number under which the stage's faults are known.
-const NUMBER: u8 = 1;
+use stage::PlainStage;
+use stage::buffers::{first_above, first_difference};
 
 /// How many bits the stage takes.
 const MESSAGE: usize = 28;
@@ -84,117 +79,45 @@ fn check_of(message: &[u8]) -> [u8; CHECK]
     ]
 }
 
-/// Puts the check behind the `n` bits in front of `buffer` and answers how many bits that makes.
-fn append_check(n: usize, buffer: &mut [u8]) -> usize
-    requires list { legal (plain checking) (take n buffer.old) ≡ true }
-    requires front { n ≤ length buffer.old }
-    requires room { code_room (plain checking) n ≤ length buffer.old }
-    ensures { Holds buffer.new result (with_check (take n buffer.old)) }
-{
-    let check = check_of(&buffer[0..n]);
-    buffer[n..n + CHECK].copy_from_slice(&check);
-    n + CHECK
-}
+impl PlainStage for Check {
+    ghost meaning = { λ _. checking };
 
-/// How many of the `n` elements in front of `buffer` are bits, up to the first that is none.
-fn leading_bits(n: usize, buffer: &[u8]) -> usize
-    requires { n ≤ length buffer.now }
-    ensures { Leading n buffer.now result }
-{
-    for i in 0..n {
-        if buffer[i] > 1 {
-            return i;
+    fn number(&self) -> u8 {
+        1
+    }
+
+    fn takes(&self) -> u8 {
+        1
+    }
+
+    fn puts(&self) -> u8 {
+        1
+    }
+
+    fn coded_length(&self, length: usize) -> Option<usize> {
+        (length == MESSAGE).then_some(CODED)
+    }
+
+    fn message_length(&self, length: usize) -> Option<usize> {
+        (length == CODED).then_some(MESSAGE)
+    }
+
+    fn write_coding(&self, list: &[u8], coded: &mut [u8]) {
+        let (message, check) = coded.split_at_mut(MESSAGE);
+        message.copy_from_slice(list);
+        check.copy_from_slice(&check_of(list));
+    }
+
+    fn regain(&self, received: &[u8], list: &mut [u8]) -> Option<usize> {
+        let (message, check) = received.split_at(MESSAGE);
+        list.copy_from_slice(message);
+        if let Some(place) = first_above(message, 1) {
+            return Some(place);
         }
-    }
-    n
-}
-
-/// How many bits of `check` stand behind the message in `buffer`, up to the first that does not.
-fn agreeing(check: [u8; CHECK], buffer: &[u8]) -> usize
-    requires { coded_bits ≤ length buffer.now }
-    ensures { Agreeing check buffer.now result }
-{
-    for i in 0..CHECK {
-        if buffer[MESSAGE + i] != check[i] {
-            return i;
-        }
-    }
-    CHECK
-}
-
-/// The length of the message before the check, of `n` elements in front of `buffer`, or the
-/// fault.
-fn uncheck(n: usize, buffer: &[u8]) -> Result<usize, StageFault>
-    requires { n ≤ length buffer.now }
-    ensures { Unchecked n buffer.now result }
-{
-    if n != CODED {
-        return Err(StageFault {
-            number: NUMBER,
-            place: 0,
-        });
-    }
-    let bits = leading_bits(MESSAGE, buffer);
-    if bits < MESSAGE {
-        return Err(StageFault {
-            number: NUMBER,
-            place: bits,
-        });
-    }
-    let same = agreeing(check_of(&buffer[0..MESSAGE]), buffer);
-    if same < CHECK {
-        return Err(StageFault {
-            number: NUMBER,
-            place: MESSAGE + same,
-        });
-    }
-    Ok(MESSAGE)
-}
-
-/// The length with a check, if it is legal.
-fn length_checked(length: usize) -> Option<usize>
-    ensures { result ≡ checking.«coded_length» length }
-{
-    if length == MESSAGE { Some(CODED) } else { None }
-}
-
-/// The length without the check, if a coding has that length.
-fn length_unchecked(length: usize) -> Option<usize>
-    ensures { result ≡ checking.«message_length» length }
-{
-    if length == CODED { Some(MESSAGE) } else { None }
-}
-
-impl Stage for Check {
-    ghost model = { λ _. plain checking };
-
-    ghost keeps = { λ s h. plain_keeps checking checking_sound };
-
-    fn outline(&self) -> Outline {
-        Outline {
-            takes: 1,
-            puts: 1,
-            members: 1,
-            fit: true,
-        }
+        first_difference(&check_of(message), check).map(|place| MESSAGE + place)
     }
 
-    fn coded_span(&self, length: usize) -> Span {
-        Span::of(length, length_checked(length))
-    }
-
-    fn decoded_span(&self, length: usize) -> Span {
-        Span::of(length, length_unchecked(length))
-    }
-
-    fn code_in(&self, n: usize, _work: &mut [u8], res: &mut [u8]) -> usize {
-        append_check(n, res)
-    }
-
-    fn decode_in(&self, n: usize, _work: &mut [u8], res: &mut [u8]) -> Result<usize, ChainFault> {
-        let length = uncheck(n, res)?;
-        Ok(length)
-    }
+    ghost sound = { λ _. checking_sound };
 }
 
 /// The worked examples hold of the definition. The function does nothing: its contract is the fact.

@@ -13,7 +13,6 @@ pub mod polynomials;
 #[cfg(test)]
 mod repeat_tests;
 pub mod repeats;
-mod runs;
 #[cfg(test)]
 mod scramble_tests;
 pub mod scramblers;

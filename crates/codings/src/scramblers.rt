@@ -1,16 +1,10 @@
 //! A stage that XORs bytes with a bit sequence, so that long runs of equal bits are broken up.
 
-ghost use Rattle.std.specs.Prelude.{◌≡◌, ◌≤◌, length, take};
-ghost use Rattle.stage.specs.Model.{plain};
-ghost use Rattle.stage.specs.Calls.{Holds};
-ghost use Rattle.codings.specs.Scramblers.{scrambling, scrambled, four_on, Unscrambled, SequenceLaw, ScrambleExample};
-ghost use Rattle.stage.proofs.Plains.{plain_keeps};
+ghost use Rattle.std.specs.Prelude.{◌≡◌, length};
+ghost use Rattle.codings.specs.Scramblers.{scrambling, scrambled, short_length, four_on, SequenceLaw, ScrambleExample};
 ghost use Rattle.codings.specs.ScrambleLaws.{scrambling_sound};
 
-use stage::{ChainFault, Outline, Span, Stage, StageFault};
-
-/// The number under which the stage's faults are known.
-const NUMBER: u8 = 2;
+use stage::PlainStage;
 
 /// The longest list that the stage takes.
 const LONGEST: usize = 255;
@@ -42,74 +36,58 @@ fn next_byte(window: u8) -> u8
     four_more(four_more(window))
 }
 
-/// XORs the `n` elements in front of `buffer` with the sequence; answers `n`.
-fn scramble_front(n: usize, buffer: &mut [u8]) -> usize
-    requires { n ≤ length buffer.old }
-    ensures { Holds buffer.new result (scrambled 0 (take n buffer.old)) }
-{
-    let mut window = SEVEN_ONES;
-    for i in 0..n {
-        window = next_byte(window);
-        buffer[i] ^= window;
-    }
-    n
-}
-
-/// Takes the sequence from the `n` elements in front of `buffer` again, or answers the fault.
-fn unscramble(n: usize, buffer: &mut [u8]) -> Result<usize, StageFault>
-    requires { n ≤ length buffer.old }
-    ensures { Unscrambled n buffer.old buffer.new result }
-{
-    if n > LONGEST {
-        return Err(StageFault {
-            number: NUMBER,
-            place: 0,
-        });
-    }
-    Ok(scramble_front(n, buffer))
-}
-
 /// The same length, if it is legal.
 fn same_length(length: usize) -> Option<usize>
-    ensures { result ≡ (scrambling 0).«coded_length» length }
+    ensures { result ≡ short_length length }
 {
-    if length <= LONGEST {
-        Some(length)
-    } else {
-        None
+    (length <= LONGEST).then_some(length)
+}
+
+/// Writes the bytes of `list`, XORed with the sequence, over `mixed`.
+fn mix(list: &[u8], mixed: &mut [u8])
+    requires { length mixed.old ≡ length list.now }
+    ensures { mixed.new ≡ scrambled 0 list.now }
+{
+    let mut window = SEVEN_ONES;
+    for (i, byte) in list.iter().enumerate() {
+        window = next_byte(window);
+        mixed[i] = *byte ^ window;
     }
 }
 
-impl Stage for Scramble {
-    ghost model = { λ _. plain (scrambling 0) };
+impl PlainStage for Scramble {
+    ghost meaning = { λ _. scrambling 0 };
 
-    ghost keeps = { λ s h. plain_keeps (scrambling 0) (scrambling_sound 0) };
-
-    fn outline(&self) -> Outline {
-        Outline {
-            takes: 255,
-            puts: 255,
-            members: 1,
-            fit: true,
-        }
+    fn number(&self) -> u8 {
+        2
     }
 
-    fn coded_span(&self, length: usize) -> Span {
-        Span::of(length, same_length(length))
+    fn takes(&self) -> u8 {
+        255
     }
 
-    fn decoded_span(&self, length: usize) -> Span {
-        Span::of(length, same_length(length))
+    fn puts(&self) -> u8 {
+        255
     }
 
-    fn code_in(&self, n: usize, _work: &mut [u8], res: &mut [u8]) -> usize {
-        scramble_front(n, res)
+    fn coded_length(&self, length: usize) -> Option<usize> {
+        same_length(length)
     }
 
-    fn decode_in(&self, n: usize, _work: &mut [u8], res: &mut [u8]) -> Result<usize, ChainFault> {
-        let length = unscramble(n, res)?;
-        Ok(length)
+    fn message_length(&self, length: usize) -> Option<usize> {
+        same_length(length)
     }
+
+    fn write_coding(&self, list: &[u8], coded: &mut [u8]) {
+        mix(list, coded)
+    }
+
+    fn regain(&self, received: &[u8], list: &mut [u8]) -> Option<usize> {
+        mix(received, list);
+        None
+    }
+
+    ghost sound = { λ _. scrambling_sound 0 };
 }
 
 /// The scrambling sequence keeps its recurrence: seven ones, and then each bit is the XOR of those

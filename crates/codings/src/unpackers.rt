@@ -1,20 +1,11 @@
 //! Unpacking: each byte as eight bits, highest first.
 
-ghost use Rattle.std.specs.Prelude.{◌≡◌, ℕ, ◌+◌, ◌*◌, ◌<◌, ◌≤◌, true, length, take, slice_index};
-ghost use Rattle.std.proofs.Math.Seq.{paste};
-ghost use Rattle.stage.specs.Calls.{Holds};
-ghost use Rattle.stage.specs.Model.{plain, legal, decoding, code_room};
-ghost use Rattle.codings.specs.Agreement.{Takes};
-ghost use Rattle.codings.specs.Unpackers.{bit_of, eight_bits, unpacked, unpacked_length, packed_length, byte_at, packed, unpacking, EightBits};
-ghost use Rattle.stage.proofs.Plains.{plain_keeps};
+ghost use Rattle.std.specs.Prelude.{◌≡◌, ◌*◌, ◌<◌, ◌≤◌, length, slice_index, EachIndex};
+ghost use Rattle.codings.specs.Unpackers.{bit_of, eight_bits, byte_of, packed, unpacking};
 ghost use Rattle.codings.specs.UnpackLaws.{unpacking_sound};
 
-use crate::runs::leading_bits;
-use stage::buffers::copy_front;
-use stage::{ChainFault, Outline, Span, Stage, StageFault};
-
-/// The number under which the stage's faults are known.
-const NUMBER: u8 = 4;
+use stage::PlainStage;
+use stage::buffers::first_above;
 
 /// The most bytes that the stage takes.
 const MOST_BYTES: usize = 255;
@@ -27,28 +18,6 @@ const WIDTH: usize = 8;
 #[derive(Clone, Copy)]
 pub struct UnpackBits;
 
-/// The length in bits, if `length` bytes are taken.
-fn length_unpacked(length: usize) -> Option<usize>
-    ensures { result ≡ unpacked_length length }
-{
-    if length <= MOST_BYTES {
-        Some(length * WIDTH)
-    } else {
-        None
-    }
-}
-
-/// The length in bytes, if a coding has `length` bits.
-fn length_packed(length: usize) -> Option<usize>
-    ensures { result ≡ packed_length length }
-{
-    if length % WIDTH == 0 && length <= MOST_BYTES * WIDTH {
-        Some(length / WIDTH)
-    } else {
-        None
-    }
-}
-
 /// The bit `k` of `byte`, counted from the highest.
 fn bit_from_top(byte: u8, k: usize) -> u8
     requires { k < 8 }
@@ -57,108 +26,81 @@ fn bit_from_top(byte: u8, k: usize) -> u8
     (byte >> (WIDTH - 1 - k)) % 2
 }
 
-/// Writes the eight bits of `byte` from `at` on; the rest is as it was.
-fn put_bits(byte: u8, at: usize, buffer: &mut [u8])
-    requires { at + 8 ≤ length buffer.old }
-    ensures { buffer.new ≡ paste buffer.old at (eight_bits byte) 8 }
+/// The eight bits of `byte`, highest first.
+fn bits_of(byte: u8) -> [u8; WIDTH]
+    ensures { result ≡ eight_bits byte }
 {
-    for k in 0..WIDTH {
-        buffer[at + k] = bit_from_top(byte, k);
+    std::array::from_fn(|k| bit_from_top(byte, k))
+}
+
+/// The byte of eight bits, highest first.
+fn byte_from_bits(bits: &[u8]) -> u8
+    requires eight { length bits.now ≡ 8 }
+    requires bits { EachIndex bits.now (λ k. slice_index bits.now k ≤ 1) }
+    ensures { result ≡ byte_of (λ k. slice_index bits.now k) }
+{
+    128 * bits[0]
+        + 64 * bits[1]
+        + 32 * bits[2]
+        + 16 * bits[3]
+        + 8 * bits[4]
+        + 4 * bits[5]
+        + 2 * bits[6]
+        + bits[7]
+}
+
+/// Writes the byte of each eight bits over `bytes`.
+fn pack(bits: &[u8], bytes: &mut [u8])
+    requires eights { length bits.now ≡ length bytes.old * 8 }
+    requires bits { EachIndex bits.now (λ k. slice_index bits.now k ≤ 1) }
+    ensures { bytes.new ≡ packed (length bytes.old) bits.now }
+{
+    for (i, eight) in bits.chunks_exact(WIDTH).enumerate() {
+        bytes[i] = byte_from_bits(eight);
     }
 }
 
-/// Puts the bits of the `n` bytes in front of `bytes` to the front of `buffer`; answers how many.
-fn put_bytes(n: usize, bytes: &[u8], buffer: &mut [u8]) -> usize
-    requires list { legal (plain unpacking) (take n bytes.now) ≡ true }
-    requires front { n ≤ length bytes.now }
-    requires room { code_room (plain unpacking) n ≤ length buffer.old }
-    ensures { Holds buffer.new result (unpacked (take n bytes.now)) }
-{
-    for i in 0..n {
-        put_bits(bytes[i], i * WIDTH, buffer);
+impl PlainStage for UnpackBits {
+    ghost meaning = { λ _. unpacking };
+
+    fn number(&self) -> u8 {
+        4
     }
-    n * WIDTH
-}
 
-/// The byte whose bits stand in `buffer` from `at` on.
-fn byte_from_bits(at: usize, buffer: &[u8]) -> u8
-    requires room { at + 8 ≤ length buffer.now }
-    requires bits { EightBits at buffer.now }
-    ensures { result ≡ byte_at buffer.now at }
-{
-    128 * buffer[at]
-        + 64 * buffer[at + 1]
-        + 32 * buffer[at + 2]
-        + 16 * buffer[at + 3]
-        + 8 * buffer[at + 4]
-        + 4 * buffer[at + 5]
-        + 2 * buffer[at + 6]
-        + buffer[at + 7]
-}
-
-/// Leaves the bytes of the first `count` times eight bits in front of `buffer`.
-fn pack_front(count: usize, buffer: &mut [u8])
-    requires room { count * 8 ≤ length buffer.old }
-    requires bits { (k : ℕ) → k < count * 8 → slice_index buffer.old k ≤ 1 }
-    ensures { take count buffer.new ≡ packed count buffer.old }
-{
-    for i in 0..count {
-        buffer[i] = byte_from_bits(i * WIDTH, buffer);
+    fn takes(&self) -> u8 {
+        255
     }
-}
 
-/// Takes the `n` elements in front of `buffer` for the bits of bytes, and leaves the bytes in
-/// front, or answers how far they are bits.
-fn take_back(n: usize, buffer: &mut [u8]) -> Result<usize, StageFault>
-    requires { n ≤ length buffer.old }
-    ensures { Takes (decoding (plain unpacking) (take n buffer.old)) result buffer.new }
-{
-    let Some(count) = length_packed(n) else {
-        return Err(StageFault {
-            number: NUMBER,
-            place: 0,
-        });
-    };
-    let place = leading_bits(n, buffer);
-    if place < n {
-        return Err(StageFault {
-            number: NUMBER,
-            place,
-        });
+    fn puts(&self) -> u8 {
+        1
     }
-    pack_front(count, buffer);
-    Ok(count)
-}
 
-impl Stage for UnpackBits {
-    ghost model = { λ _. plain unpacking };
-
-    ghost keeps = { λ s h. plain_keeps unpacking unpacking_sound };
-
-    fn outline(&self) -> Outline {
-        Outline {
-            takes: 255,
-            puts: 1,
-            members: 1,
-            fit: true,
+    fn coded_length(&self, length: usize) -> Option<usize> {
+        if length <= MOST_BYTES {
+            Some(length * WIDTH)
+        } else {
+            None
         }
     }
 
-    fn coded_span(&self, length: usize) -> Span {
-        Span::of(length, length_unpacked(length))
+    fn message_length(&self, length: usize) -> Option<usize> {
+        (length % WIDTH == 0 && length <= MOST_BYTES * WIDTH).then_some(length / WIDTH)
     }
 
-    fn decoded_span(&self, length: usize) -> Span {
-        Span::of(length, length_packed(length))
+    fn write_coding(&self, list: &[u8], coded: &mut [u8]) {
+        for (i, byte) in list.iter().enumerate() {
+            // By place: what is written through `chunks_exact_mut` is not known behind it.
+            coded[i * WIDTH..(i + 1) * WIDTH].copy_from_slice(&bits_of(*byte));
+        }
     }
 
-    fn code_in(&self, n: usize, work: &mut [u8], res: &mut [u8]) -> usize {
-        copy_front(n, res, work);
-        put_bytes(n, work, res)
+    fn regain(&self, received: &[u8], list: &mut [u8]) -> Option<usize> {
+        if let Some(place) = first_above(received, 1) {
+            return Some(place);
+        }
+        pack(received, list);
+        None
     }
 
-    fn decode_in(&self, n: usize, _work: &mut [u8], res: &mut [u8]) -> Result<usize, ChainFault> {
-        let length = take_back(n, res)?;
-        Ok(length)
-    }
+    ghost sound = { λ _. unpacking_sound };
 }

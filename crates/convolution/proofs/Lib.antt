@@ -1,3 +1,5 @@
 -- Lemmas of the convolutional code.
 pub mod WordLaws
-pub mod LoopLaws
+pub mod CodingLaws
+pub mod RegainingLaws
+pub mod InPlace

@@ -1,5 +1,4 @@
 -- The convolutional code and its stage.
-pub mod Agreement
 pub mod Convolutions
 pub mod Words
 pub mod NearestLaws

@@ -1,5 +1,5 @@
 -- The message nearest to a received list, and the stage's soundness.
-use Rattle.std.specs.Prelude.{◌≡◌, ℕ, zero, suc, ◌+◌, ◌-◌, ◌*◌, ◌/◌, ◌%◌, ◌<◌, ◌≤◌, Bool, true, false, cond, ◌&&◌, ◌⊎◌, List, [], ◌∷◌, length, Some, None, ◌==◌, bit_xor, nat_le, slice_index, slice_index_or, refl}
+use Rattle.std.specs.Prelude.{◌≡◌, ℕ, zero, suc, ◌+◌, ◌-◌, ◌*◌, ◌/◌, ◌%◌, ◌<◌, ◌≤◌, true, ◌&&◌, ◌⊎◌, List, [], ◌∷◌, length, Some, None, ◌==◌, bit_xor, nat_le, slice_index, slice_index_or, refl}
 use Rattle.std.proofs.Common.{sym, ap, subst, ◌∙◌, inl, inr, arith, below_more}
 use Rattle.std.specs.Int.Bits.{xor_zero_l}
 use Rattle.std.proofs.lemmas.List.{length_push, get_or_push, get_or_append_left, get_or_past}
@@ -9,12 +9,9 @@ use Rattle.stage.specs.Model.{plain, legal}
 use Rattle.stage.specs.Sound.{Sound}
 use Rattle.stage.specs.Lists.{value_of_some, within_at, within_from, same_by_places}
 use Rattle.stage.specs.Legality.{legal_within, legal_length}
+use Rattle.stage.specs.AgreementLaws.{some_under_test}
 use Rattle.convolution.specs.Convolutions.{most_bits, tail, x_taps, tapped, convolved, convolved_length, plain_length, nearest_bit, nearest, convolution}
 use Rattle.convolution.specs.BitLaws.{x_past, xor_twice, tapped_small, x_past_same, x_with_past, xor_small, output_even, output_same, length_convolved, convolved_at, convolved_bits}
-
-some_under_test : (b : Bool) (n k : ℕ) → cond b (Some n) None ≡ Some k → (b ≡ true) × (n ≡ k)
-some_under_test true n k h = (refl, (cc))
-some_under_test false n k h = let z : ◌≡◌ {A = ℕ} 0 1 = cc in absurd (omega arith)
 
 pub convolved_is : (n k : ℕ) → convolved_length n ≡ Some k → (n ≤ most_bits) × (2 * (n + tail) ≡ k)
 convolved_is n k h =

@@ -1,16 +1,11 @@
 //! The convolutional code of rate one half and constraint length seven.
 
-ghost use Rattle.std.specs.Prelude.{◌≡◌, ℕ, ◌+◌, ◌*◌, ◌<◌, ◌≤◌, true, length, take};
-ghost use Rattle.stage.specs.Calls.{Holds};
-ghost use Rattle.stage.specs.Model.{plain, legal, decoding, code_room};
-ghost use Rattle.convolution.specs.Agreement.{Takes};
-ghost use Rattle.convolution.specs.Convolutions.{tail, convolved, convolved_length, plain_length, convolution, SingleOne};
-ghost use Rattle.convolution.specs.Words.{word_x, word_y, fitting_bit, ZeroTail, Regained};
-ghost use Rattle.stage.proofs.Plains.{plain_keeps};
+ghost use Rattle.std.specs.Prelude.{◌≡◌, ◌+◌, ◌*◌, ◌<◌, ◌≤◌};
+ghost use Rattle.convolution.specs.Convolutions.{convolution, SingleOne};
+ghost use Rattle.convolution.specs.Words.{word_x, word_y, fitting_bit};
 ghost use Rattle.convolution.specs.NearestLaws.{convolution_sound};
 
-use stage::buffers::copy_front;
-use stage::{ChainFault, Outline, Span, Stage, StageFault};
+use stage::PlainStage;
 
 /// The number under which the stage's faults are known.
 const NUMBER: u8 = 5;
@@ -58,70 +53,6 @@ fn y_of(word: u8) -> u8
     (word ^ (word >> 2) ^ (word >> 3) ^ (word >> 5) ^ (word >> 6)) & 1
 }
 
-/// The length of the coding, if `length` bits are taken.
-fn length_convolved(length: usize) -> Option<usize>
-    ensures { result ≡ convolved_length length }
-{
-    if length <= MOST_BITS {
-        Some(2 * (length + TAIL))
-    } else {
-        None
-    }
-}
-
-/// The length of the message, if a coding has `length` bits.
-fn length_plain(length: usize) -> Option<usize>
-    ensures { result ≡ plain_length length }
-{
-    if length % 2 == 0 && 2 * TAIL <= length && length <= 2 * (MOST_BITS + TAIL) {
-        Some(length / 2 - TAIL)
-    } else {
-        None
-    }
-}
-
-/// Puts the tail behind the first `n` elements of `buffer`.
-fn put_tail(n: usize, buffer: &mut [u8])
-    requires { n + tail ≤ length buffer.old }
-    ensures front { take n buffer.new ≡ take n buffer.old }
-    ensures zeros { ZeroTail n buffer.new }
-{
-    for i in n..n + TAIL {
-        buffer[i] = 0;
-    }
-}
-
-/// Copies the `n` bits in front of `bits` to the front of `buffer` and puts the tail behind them.
-fn copy_with_tail(n: usize, bits: &[u8], buffer: &mut [u8])
-    requires list { legal (plain convolution) (take n bits.now) ≡ true }
-    requires front { n ≤ length bits.now }
-    requires room { code_room (plain convolution) n ≤ length buffer.old }
-    ensures front { take n buffer.new ≡ take n bits.now }
-    ensures zeros { ZeroTail n buffer.new }
-{
-    copy_front(n, bits, buffer);
-    put_tail(n, buffer);
-}
-
-/// Puts X and Y of the `n` bits in front of `bits`, and of the tail behind them, to the front of
-/// `buffer`; answers how many elements that are.
-fn put_pairs(n: usize, bits: &[u8], buffer: &mut [u8]) -> usize
-    requires list { legal (plain convolution) (take n bits.now) ≡ true }
-    requires zeros { ZeroTail n bits.now }
-    requires from { code_room (plain convolution) n ≤ length bits.now }
-    requires to { code_room (plain convolution) n ≤ length buffer.old }
-    ensures { Holds buffer.new result (convolved (take n bits.now)) }
-{
-    let mut register = 0u8;
-    for i in 0..n + TAIL {
-        let word = word_of(register, bits[i]);
-        buffer[2 * i] = x_of(word);
-        buffer[2 * i + 1] = y_of(word);
-        register = word % REGISTERS;
-    }
-    2 * (n + TAIL)
-}
-
 /// The bit at place `i` of a message of `count` bits that makes X the received `x`, after the
 /// bits in `register`; 0 in the tail.
 fn bit_at(i: usize, count: usize, register: u8, x: u8) -> u8
@@ -135,79 +66,66 @@ fn bit_at(i: usize, count: usize, register: u8, x: u8) -> u8
     }
 }
 
-/// How far the pairs in front of `buffer` are the coding of `count` bits; where they wholly are,
-/// the bits stand in front afterwards.
-fn take_pairs(count: usize, buffer: &mut [u8]) -> usize
-    requires { 2 * (count + tail) ≤ length buffer.old }
-    ensures { Regained count buffer.old buffer.new result }
-{
-    let mut register = 0u8;
-    for i in 0..count + TAIL {
-        let bit = bit_at(i, count, register, buffer[2 * i]);
-        let word = word_of(register, bit);
-        if buffer[2 * i] != x_of(word) {
-            return 2 * i;
-        }
-        if buffer[2 * i + 1] != y_of(word) {
-            return 2 * i + 1;
-        }
-        buffer[i] = bit;
-        register = word % REGISTERS;
+impl PlainStage for Convolve {
+    ghost meaning = { λ _. convolution };
+
+    ghost sound = { λ _. convolution_sound };
+
+    fn number(&self) -> u8 {
+        NUMBER
     }
-    2 * (count + TAIL)
-}
 
-/// Takes the `n` elements in front of `buffer` for the coding of bits, and leaves the bits in
-/// front, or answers how far they are one.
-fn take_back(n: usize, buffer: &mut [u8]) -> Result<usize, StageFault>
-    requires { n ≤ length buffer.old }
-    ensures { Takes (decoding (plain convolution) (take n buffer.old)) result buffer.new }
-{
-    let Some(count) = length_plain(n) else {
-        return Err(StageFault {
-            number: NUMBER,
-            place: 0,
-        });
-    };
-    let place = take_pairs(count, buffer);
-    if place < n {
-        return Err(StageFault {
-            number: NUMBER,
-            place,
-        });
+    fn takes(&self) -> u8 {
+        1
     }
-    Ok(count)
-}
 
-impl Stage for Convolve {
-    ghost model = { λ _. plain convolution };
+    fn puts(&self) -> u8 {
+        1
+    }
 
-    ghost keeps = { λ s h. plain_keeps convolution convolution_sound };
-
-    fn outline(&self) -> Outline {
-        Outline {
-            takes: 1,
-            puts: 1,
-            members: 1,
-            fit: true,
+    fn coded_length(&self, length: usize) -> Option<usize> {
+        if length <= MOST_BITS {
+            Some(2 * (length + TAIL))
+        } else {
+            None
         }
     }
 
-    fn coded_span(&self, length: usize) -> Span {
-        Span::of(length, length_convolved(length))
+    fn message_length(&self, length: usize) -> Option<usize> {
+        if length % 2 == 0 && 2 * TAIL <= length && length <= 2 * (MOST_BITS + TAIL) {
+            Some(length / 2 - TAIL)
+        } else {
+            None
+        }
     }
 
-    fn decoded_span(&self, length: usize) -> Span {
-        Span::of(length, length_plain(length))
+    fn write_coding(&self, list: &[u8], coded: &mut [u8]) {
+        let mut register = 0u8;
+        for (i, bit) in list.iter().chain(&[0; TAIL]).enumerate() {
+            let word = word_of(register, *bit);
+            // By place: what is written through `chunks_exact_mut` is not known behind it.
+            coded[2 * i] = x_of(word);
+            coded[2 * i + 1] = y_of(word);
+            register = word % REGISTERS;
+        }
     }
 
-    fn code_in(&self, n: usize, work: &mut [u8], res: &mut [u8]) -> usize {
-        copy_with_tail(n, res, work);
-        put_pairs(n, work, res)
-    }
-
-    fn decode_in(&self, n: usize, _work: &mut [u8], res: &mut [u8]) -> Result<usize, ChainFault> {
-        let length = take_back(n, res)?;
-        Ok(length)
+    fn regain(&self, received: &[u8], list: &mut [u8]) -> Option<usize> {
+        let mut register = 0u8;
+        for (i, pair) in received.chunks_exact(2).enumerate() {
+            let bit = bit_at(i, list.len(), register, pair[0]);
+            let word = word_of(register, bit);
+            if pair[0] != x_of(word) {
+                return Some(2 * i);
+            }
+            if pair[1] != y_of(word) {
+                return Some(2 * i + 1);
+            }
+            if i < list.len() {
+                list[i] = bit;
+            }
+            register = word % REGISTERS;
+        }
+        None
     }
 }

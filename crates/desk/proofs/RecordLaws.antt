@@ -1,6 +1,6 @@
 -- Reading a recording row by row.
 use Rattle.std.proofs.Common.{◌≡◌, ℕ, suc, ◌+◌, Bool, true, false, cond, eqb, ltb, List, Some, None, Ok, Err, Option, Result, sym, refl, ap, ◌∙◌, arith}
-use Rattle.talk.specs.Cells.{row_of, with_row, with_rows}
+use Rattle.wording.specs.Cells.{row_of, with_row, with_rows}
 use Rattle.receiving.specs.declared.recordings.RecordedRow.{RecordedRow}
 use Rattle.receiving.specs.declared.recordings.RecordRefusal.{RecordRefusal}
 use Rattle.receiving.specs.declared.recordings.RecordRefusal.TheVariants.{Short}

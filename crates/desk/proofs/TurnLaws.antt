@@ -5,8 +5,8 @@ use lib.ListN.{length-replicate}
 use Rattle.desk.specs.Sending.{BeginAsked, begin_turn, begun_turn, finish_if, finish_turn, finished_turn}
 use Rattle.desk.specs.Views.{DeskView, Took, Turn}
 use Rattle.frame.specs.declared.headers.Header.{Header}
-use Rattle.talk.specs.Cells.{with_rows}
-use Rattle.talk.specs.Texts.{refused_text}
+use Rattle.wording.specs.Cells.{with_rows}
+use Rattle.wording.specs.Texts.{refused_text}
 use Rattle.sending.specs.declared.refusals.BeginRefusal.{BeginRefusal}
 use Rattle.sending.specs.declared.refusals.FinishRefusal.{FinishRefusal}
 use Rattle.sending.specs.Numbers.{finish_number}

@@ -4,9 +4,9 @@ use Rattle.desk.specs.Receiving.{feed_reply, start_reply, take_reply}
 use Rattle.desk.specs.Records.{record_reply}
 use Rattle.desk.specs.Sending.{begin_reply, finish_reply}
 use Rattle.desk.specs.Views.{DeskView, MaybeTurn}
-use Rattle.talk.specs.Calls.{skipped}
-use Rattle.talk.specs.Replies.{call_reply, without_end}
-use Rattle.talk.specs.Words.{read_word, words}
+use Rattle.wording.specs.Lines.{skipped, without_end}
+use Rattle.talk.specs.Replies.{call_reply}
+use Rattle.wording.specs.Words.{read_word, words}
 use Rattle.receiving.specs.Steps.{fresh}
 use Rattle.std.specs.Option.{unwrap_or}
 use Rattle.std.specs.Str.{bytes_eq}
@@ -19,18 +19,14 @@ new_desk = record { receiver = fresh; cells = []; begun = None }
 abbrev pub other_reply : List ℕ → List (List ℕ) → Option (List ℕ)
 other_reply name ws = cond (bytes_eq name (codes "record")) (record_reply ws) (call_reply name ws)
 
--- What the calls of the receiver do, and the calls that change nothing.
-abbrev pub receiving_reply : DeskView → List ℕ → List (List ℕ) → MaybeTurn
-receiving_reply v name ws =
-    cond (bytes_eq name (codes "start")) (start_reply v ws)
-    (cond (bytes_eq name (codes "feed")) (feed_reply v ws)
-    (cond (bytes_eq name (codes "take")) (take_reply v ws) (v, other_reply name ws)))
-
 -- What a call does, by its name and the words behind it.
 abbrev pub named_reply : DeskView → List ℕ → List (List ℕ) → MaybeTurn
 named_reply v name ws =
     cond (bytes_eq name (codes "begin")) (begin_reply v ws)
-    (cond (bytes_eq name (codes "finish")) (finish_reply v ws) (receiving_reply v name ws))
+    (cond (bytes_eq name (codes "finish")) (finish_reply v ws)
+    (cond (bytes_eq name (codes "start")) (start_reply v ws)
+    (cond (bytes_eq name (codes "feed")) (feed_reply v ws)
+    (cond (bytes_eq name (codes "take")) (take_reply v ws) (v, other_reply name ws)))))
 
 -- What the words of a line do.
 abbrev pub read_reply : DeskView → Option (List ℕ × List (List ℕ)) → MaybeTurn

@@ -2,9 +2,9 @@
 use Rattle.std.specs.Prelude.{◌≡◌, ℕ, List, [], ◌++◌, take, Ok, Err, codes, Result}
 use Rattle.desk.specs.Views.{DeskView, MaybeTurn, Turn, turn_if}
 use Rattle.frame.specs.declared.headers.Header.{Header}
-use Rattle.talk.specs.Hexes.{hex_of}
-use Rattle.talk.specs.Lasts.{last_cells, last_room}
-use Rattle.talk.specs.Texts.{labelled, refused_text, with_chain_fault, with_header}
+use Rattle.wording.specs.Hexes.{hex_of}
+use Rattle.wording.specs.Lasts.{last_cells, last_room}
+use Rattle.wording.specs.Texts.{labelled, refused_text, with_chain_fault, with_header}
 use Rattle.receiving.specs.Decisions.{feed_number, start_number, take_number}
 use Rattle.receiving.specs.declared.refusals.FeedRefusal.{FeedRefusal}
 use Rattle.receiving.specs.declared.refusals.FeedRefusal.TheVariants.{NotListening, Row, Fault, Header as BadHeader}

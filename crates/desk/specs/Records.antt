@@ -1,8 +1,8 @@
 -- What `record` is answered: the rows of a recording, and how many cells are left behind them.
 use Rattle.std.specs.Prelude.{ℕ, zero, suc, ◌/◌, ◌%◌, List, [], length, codes, Option}
-use Rattle.talk.specs.Cells.{row_length, with_rows}
-use Rattle.talk.specs.Lasts.{last_cells}
-use Rattle.talk.specs.Texts.{labelled}
+use Rattle.wording.specs.Cells.{row_length, with_rows}
+use Rattle.wording.specs.Lasts.{last_cells}
+use Rattle.wording.specs.Texts.{labelled}
 use Rattle.std.specs.Option.{option_map}
 
 -- A text with the length of the short part behind it, if there is one.

@@ -3,10 +3,10 @@ use Rattle.std.specs.Prelude.{◌≡◌, ℕ, List, length, replicate, Some, Non
 use Rattle.desk.specs.Views.{DeskView, MaybeTurn, Turn, turn_if}
 use Rattle.desk.specs.declared.requests.BeginRequest.{BeginRequest}
 use Rattle.frame.specs.declared.headers.Header.{Header}
-use Rattle.talk.specs.Calls.{read_header, read_number, then_read}
-use Rattle.talk.specs.Cells.{read_cells, with_rows}
-use Rattle.talk.specs.Lasts.{last_list, nothing_behind}
-use Rattle.talk.specs.Texts.{refused_text, served}
+use Rattle.wording.specs.Calls.{nothing_behind, read_header, read_number, then_read}
+use Rattle.wording.specs.Cells.{read_cells, with_rows}
+use Rattle.wording.specs.Lasts.{last_list}
+use Rattle.wording.specs.Texts.{refused_text, served}
 use Rattle.sending.specs.declared.begun.Begun.{Begun}
 use Rattle.sending.specs.declared.refusals.BeginRefusal.{BeginRefusal}
 use Rattle.sending.specs.declared.refusals.FinishRefusal.{FinishRefusal}

@@ -3,8 +3,8 @@ ghost use Rattle.std.specs.Prelude.{◌≡◌, IfOk, vec_items, codes};
 ghost use Rattle.desk.specs.Desks.{desk_view};
 ghost use Rattle.desk.specs.Sending.{Begins, Finishes, begin_asked, begin_reply, begin_turn, finish_reply, finish_turn};
 ghost use Rattle.desk.specs.Views.{Took};
-ghost use Rattle.talk.specs.Cells.{with_rows};
-ghost use Rattle.talk.specs.Words.{unread};
+ghost use Rattle.wording.specs.Cells.{with_rows};
+ghost use Rattle.wording.specs.Words.{unread};
 ghost use Rattle.std.specs.Option.{option_map};
 
 use crate::desks::Desk;
@@ -12,8 +12,9 @@ use crate::requests::{BeginRequest, read_begin};
 use frame::Header;
 use sending::{BeginRefusal, Begun, Unfinished, begin, finish};
 use std::alloc::{AllocError, Global};
-use talk::{Words, append_rows, refused_text, word_text};
+use wording::{Words, append_rows, refused_text, word_text};
 
+// A count beside the cells: a transmit buffer may be longer than its frame.
 /// The text of a frame's rows, each a word.
 fn rows_text(heap: Global, cells: &[u8], count: usize) -> Result<Vec<u8>, AllocError>
     ensures { IfOk result (λ t. t.items ≡ with_rows (codes "rows") cells.now count) }
@@ -51,10 +52,7 @@ impl Desk {
                 self.begun = Some(begun);
                 Ok(text)
             }
-            Err(refusal) => {
-                let text = refused_text(heap, refusal.number())?;
-                Ok(text)
-            }
+            Err(refusal) => refused_text(heap, refusal.number()),
         }
     }
 
@@ -64,8 +62,7 @@ impl Desk {
         ensures { IfOk result (λ t. Took (finish_turn (desk_view self.old) bytes.now) t.items (desk_view self.new)) }
     {
         let Some(begun) = self.begun.take() else {
-            let text = word_text(heap, b"unreadable")?;
-            return Ok(text);
+            return word_text(heap, b"unreadable");
         };
         match finish_in(begun, bytes, &mut self.cells) {
             Ok(rows) => {

@@ -1,17 +1,19 @@
 //! The answers to lines.
 ghost use Rattle.std.specs.Prelude.{◌≡◌, IfOk, vec_items};
 ghost use Rattle.desk.specs.Desks.{desk_view};
-ghost use Rattle.desk.specs.Lines.{body_turn, line_turn, named_reply, new_desk, other_reply, read_reply, receiving_reply};
+ghost use Rattle.desk.specs.Lines.{body_turn, line_turn, named_reply, new_desk, other_reply, read_reply};
 ghost use Rattle.desk.specs.Views.{Took};
-ghost use Rattle.talk.specs.Words.{read_word, unread};
+ghost use Rattle.wording.specs.Words.{read_word, unread};
 ghost use Rattle.std.specs.Option.{option_map};
 
 use crate::desks::Desk;
 use crate::records::record_reply;
 use receiving::Receiver;
 use std::alloc::{AllocError, Global};
-use talk::{Words, call_reply, is_skipped, same_word, without_end, word_text};
+use talk::call_reply;
+use wording::{Words, is_skipped, without_end, word_text};
 
+// Two names and no table: one is of this crate, the others of `talk`.
 /// The call with this name, if it is one that changes nothing.
 fn other_reply(
     heap: Global,
@@ -20,7 +22,7 @@ fn other_reply(
 ) -> Result<Option<Vec<u8>>, AllocError>
     ensures { IfOk result (λ o. option_map vec_items o ≡ other_reply name.now (unread words.old)) }
 {
-    if same_word(name, b"record") {
+    if name == b"record".as_slice() {
         record_reply(heap, words)
     } else {
         call_reply(heap, words, name)
@@ -39,27 +41,6 @@ impl Desk {
         }
     }
 
-    /// The call with this name, if it is one on the receiver or one that changes nothing.
-    fn receiving_reply(
-        &mut self,
-        heap: Global,
-        words: &mut Words<'_>,
-        name: &[u8],
-    ) -> Result<Option<Vec<u8>>, AllocError>
-        ensures { IfOk result (λ o. Took (receiving_reply (desk_view self.old) name.now (unread words.old)) (option_map vec_items o) (desk_view self.new)) }
-    {
-        if same_word(name, b"start") {
-            self.start_reply(heap, words)
-        } else if same_word(name, b"feed") {
-            self.feed_reply(heap, words)
-        } else if same_word(name, b"take") {
-            self.take_reply(heap, words)
-        } else {
-            let reply = other_reply(heap, words, name)?;
-            Ok(reply)
-        }
-    }
-
     /// The call with this name.
     fn named_reply(
         &mut self,
@@ -69,12 +50,19 @@ impl Desk {
     ) -> Result<Option<Vec<u8>>, AllocError>
         ensures { IfOk result (λ o. Took (named_reply (desk_view self.old) name.now (unread words.old)) (option_map vec_items o) (desk_view self.new)) }
     {
-        if same_word(name, b"begin") {
+        // As in `protocol`, where a `match` on the names was tried: the proof did not close.
+        if name == b"begin".as_slice() {
             self.begin_reply(heap, words)
-        } else if same_word(name, b"finish") {
+        } else if name == b"finish".as_slice() {
             self.finish_reply(heap, words)
+        } else if name == b"start".as_slice() {
+            self.start_reply(heap, words)
+        } else if name == b"feed".as_slice() {
+            self.feed_reply(heap, words)
+        } else if name == b"take".as_slice() {
+            self.take_reply(heap, words)
         } else {
-            self.receiving_reply(heap, words, name)
+            other_reply(heap, words, name)
         }
     }
 

@@ -3,7 +3,7 @@ ghost use Rattle.std.specs.Prelude.{◌≡◌, length, IfOk, Ok, Err, vec_items,
 ghost use Rattle.desk.specs.Desks.{desk_view};
 ghost use Rattle.desk.specs.Receiving.{TakesOut, fed_text, feed_reply, feed_turn, part_text, start_reply, start_turn, take_reply, take_turn, taken_text, with_feed_fault};
 ghost use Rattle.desk.specs.Views.{Took};
-ghost use Rattle.talk.specs.Words.{unread};
+ghost use Rattle.wording.specs.Words.{unread};
 ghost use Rattle.receiving.specs.Receivers.{view};
 ghost use Rattle.receiving.specs.Steps.{taken};
 ghost use Rattle.std.specs.Option.{option_map};
@@ -12,7 +12,7 @@ use crate::desks::Desk;
 use frame::Header;
 use receiving::{FeedRefusal, Part, Receiver, TakeRefusal};
 use std::alloc::{AllocError, Global};
-use talk::{
+use wording::{
     Words, append_chain_fault, append_header, append_hex, append_labelled, front, refused_text,
     word_text,
 };
@@ -91,20 +91,15 @@ fn take_into(heap: Global, receiver: &mut Receiver, out: &mut [u8]) -> Result<Ve
     }
 }
 
+// Calls alike but for their words and their turn: a turn as a parameter would be no plainer.
 impl Desk {
     /// Has the receiver listen afresh, and gives the text of the answer.
     fn start(&mut self, heap: Global, row: &[u8]) -> Result<Vec<u8>, AllocError>
         ensures { IfOk result (λ t. Took (start_turn (desk_view self.old) row.now) t.items (desk_view self.new)) }
     {
         match self.receiver.start(row) {
-            Ok(()) => {
-                let text = word_text(heap, b"listening")?;
-                Ok(text)
-            }
-            Err(refusal) => {
-                let text = refused_text(heap, refusal.number())?;
-                Ok(text)
-            }
+            Ok(()) => word_text(heap, b"listening"),
+            Err(refusal) => refused_text(heap, refusal.number()),
         }
     }
 
@@ -113,14 +108,8 @@ impl Desk {
         ensures { IfOk result (λ t. Took (feed_turn (desk_view self.old) row.now) t.items (desk_view self.new)) }
     {
         match self.receiver.feed(row) {
-            Ok(missing) => {
-                let text = missing_text(heap, missing)?;
-                Ok(text)
-            }
-            Err(refusal) => {
-                let text = feed_refusal_text(heap, refusal)?;
-                Ok(text)
-            }
+            Ok(missing) => missing_text(heap, missing),
+            Err(refusal) => feed_refusal_text(heap, refusal),
         }
     }
 

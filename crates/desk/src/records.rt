@@ -1,13 +1,13 @@
 //! The call `record`.
 ghost use Rattle.std.specs.Prelude.{◌≡◌, IfOk, vec_items};
 ghost use Rattle.desk.specs.Records.{count_text, record_reply, record_text};
-ghost use Rattle.talk.specs.Words.{unread};
+ghost use Rattle.wording.specs.Words.{unread};
 ghost use Rattle.std.specs.Option.{option_map};
 
 use receiving::{RecordRefusal, Recording};
 use rows::CARRIERS;
 use std::alloc::{AllocError, Global};
-use talk::{Words, append_labelled, append_row};
+use wording::{Words, append_labelled, append_row};
 
 /// The text of how many whole rows cells have.
 fn count_text(heap: Global, cells: &[u8]) -> Result<Vec<u8>, AllocError>
@@ -24,6 +24,7 @@ fn record_text(heap: Global, cells: &[u8]) -> Result<Vec<u8>, AllocError>
 {
     let mut text = count_text(heap, cells)?;
     let mut recording = Recording::new(cells);
+    // No `for`: a `Recording` is no `Iterator`, since a short part is refused as often as it is asked for.
     while let Some(next) = recording.next_row() {
         match next {
             Ok(row) => append_row(&mut text, row.cells)?,

@@ -1,12 +1,12 @@
 //! Reading what `begin` asks.
 ghost use Rattle.std.specs.Prelude.{◌≡◌, IfOk};
 ghost use Rattle.desk.specs.Sending.{begin_asked, read_begin};
-ghost use Rattle.talk.specs.Words.{unread};
+ghost use Rattle.wording.specs.Words.{unread};
 ghost use Rattle.std.specs.Option.{option_map};
 
 use frame::Header;
 use std::alloc::{AllocError, Global};
-use talk::{Words, served};
+use wording::{Words, served};
 
 /// What `begin` asks.
 #[derive(Drop)]
@@ -34,13 +34,9 @@ pub fn read_begin(heap: Global, words: &mut Words<'_>) -> Result<Option<BeginReq
     let Some(room) = words.number() else {
         return Ok(None);
     };
-    if words.next_word().is_some() {
-        return Ok(None);
-    }
-    let room = served(room);
-    Ok(Some(BeginRequest {
+    Ok(words.alone(BeginRequest {
         header,
         reference,
-        room,
+        room: served(room),
     }))
 }

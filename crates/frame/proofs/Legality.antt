@@ -1,5 +1,5 @@
 -- What legality tells, and what `size` answers because of it.
-use Rattle.std.proofs.Common.{◌≡◌, ℕ, ◌≤◌, Some, None, Ok, Err, Option, sym, refl, ap, arith}
+use Rattle.std.proofs.Common.{◌≡◌, ℕ, ◌≤◌, Some, None, Ok, Option, sym, refl, ap, arith}
 use Rattle.frame.specs.declared.headers.Header.{Header}
 use Rattle.frame.specs.declared.refusals.Refusal.{Refusal}
 use Rattle.frame.specs.Answers.{Legal, payload, refusal, size_answer, unless_refused}
@@ -10,12 +10,11 @@ pub answered_means_not_refused : {A : Type 0} (o : Option Refusal) (a b : A) →
 answered_means_not_refused None a b h = (refl, (cc))
 answered_means_not_refused (Some e) a b h = let z : ◌≡◌ {A = ℕ} 0 1 = cc in absurd (omega arith)
 
-pub refused_means_not_legal : {A : Type 0} (o : Option Refusal) (a : A) (e : Refusal) → unless_refused o a ≡ Err e → o ≡ None → ⊥
-refused_means_not_legal None a e h n = let z : ◌≡◌ {A = ℕ} 0 1 = cc in omega arith
-refused_means_not_legal (Some f) a e h n = let z : ◌≡◌ {A = ℕ} 0 1 = cc in omega arith
-
 pub legal_fl : (h : Header) → Legal h → h.fl ≤ 63
 legal_fl h l = grind (arith, nat_tests)
+
+pub legal_modulation : (h : Header) → Legal h → h.modulation ≤ 3
+legal_modulation h l = grind (arith, nat_tests)
 
 -- `g` is the header that `size` was given, `h` the one that it equals.
 pub sized_is_legal : (g h : Header) (n rows : ℕ) → g ≡ h → Ok (n, rows) ≡ size_answer g → Legal h × (n ≡ payload h)
@@ -23,8 +22,3 @@ sized_is_legal g h n rows e r =
     let a : size_answer h ≡ Ok (n, rows) = cc in
     let t = answered_means_not_refused (refusal h) (payload h, row_count h.fl) (n, rows) a in
     (t.0, sym (ap (λ (p : ℕ × ℕ). p.0) t.1))
-
-pub refused_is_not_legal : (g h : Header) (e : Refusal) → g ≡ h → Err e ≡ size_answer g → Legal h → ⊥
-refused_is_not_legal g h e q r =
-    let a : size_answer h ≡ Err e = cc in
-    refused_means_not_legal (refusal h) (payload h, row_count h.fl) e a

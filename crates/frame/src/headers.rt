@@ -1,6 +1,9 @@
 //! The header of a frame, as numbers.
-ghost use Rattle.std.specs.Prelude.{◌≡◌};
+ghost use Rattle.std.specs.Prelude.{◌≡◌, ◌≤◌};
 ghost use Rattle.frame.specs.Headers.{with_fl};
+ghost use Rattle.frame.specs.Modulations.{modulation_of};
+
+use crate::modulations::Modulation;
 
 /// The highest PDC that its eight bits hold.
 pub const PDC_HIGHEST: u32 = 255;
@@ -20,6 +23,7 @@ pub const DT_HIGHEST: u32 = 7;
 /// A header's five fields, each wide enough to hold a number that the field itself cannot.
 ///
 /// Which numbers are legal is for [`size`](crate::size) to say.
+// Numbers, and no enums: a number that stands for nothing has to be held, to be refused by name.
 #[derive(Clone, Copy, PartialEq, Eq, Debug)]
 pub struct Header {
     /// PDC, the phase detection counter: 0 to 255.
@@ -41,5 +45,13 @@ impl Header {
         ensures { result ≡ with_fl self fl }
     {
         Header { fl, ..self }
+    }
+
+    /// The payload's modulation, the one that MOD stands for; of a MOD above 3, which no legal header
+    /// has, that of 3.
+    pub fn payload_modulation(self) -> Modulation
+        ensures { result ≡ modulation_of self.modulation }
+    {
+        Modulation::try_from(self.modulation).unwrap_or(Modulation::D8psk)
     }
 }

@@ -12,9 +12,9 @@ mod sizes;
 pub use headers::{DT_HIGHEST, FL_HIGHEST, Header, MOD_HIGHEST, PDC_HIGHEST, TM_HIGHEST};
 pub use laws::{legal_sizes_are_sound, refused_with_the_first_that_applies, worked_examples};
 pub use lengths::{LegalLength, largest, smallest};
-pub use modulations::Modulation;
+pub use modulations::{Modulation, UnknownModulation};
 pub use refusals::{Field, Refusal};
-pub use sizes::size;
+pub use sizes::{BAND_CARRIERS, HEADER_ROWS, size};
 
 #[cfg(test)]
 mod tests;

@@ -1,6 +1,6 @@
 //! The four modulations, and what each fixes about the payload.
-ghost use Rattle.std.specs.Prelude.{◌≡◌, ◌≤◌};
-ghost use Rattle.frame.specs.Modulations.{modulation_of, bits_per_cell, copies, correctable};
+ghost use Rattle.std.specs.Prelude.{◌≡◌};
+ghost use Rattle.frame.specs.Modulations.{modulation_answer, bits_per_cell, copies, correctable};
 
 /// How the payload's cells carry bits.
 #[derive(Clone, Copy, PartialEq, Eq, Debug)]
@@ -15,20 +15,28 @@ pub enum Modulation {
     D8psk,
 }
 
-impl Modulation {
-    /// The modulation that a header's MOD stands for.
-    pub(crate) fn from_number(number: u32) -> Modulation
-        requires { number ≤ 3 }
-        ensures { result ≡ modulation_of number }
-    {
+/// A number that stands for no modulation.
+#[derive(Clone, Copy, PartialEq, Eq, Debug)]
+pub struct UnknownModulation(pub u32);
+
+/// The modulation that a header's MOD stands for.
+impl TryFrom<u32> for Modulation {
+    type Error = UnknownModulation;
+
+    ghost try_from_gives = { λ number answer. answer ≡ modulation_answer number };
+
+    fn try_from(number: u32) -> Result<Modulation, UnknownModulation> {
         match number {
-            0 => Modulation::Robust,
-            1 => Modulation::Dbpsk,
-            2 => Modulation::Dqpsk,
-            _ => Modulation::D8psk,
+            0 => Ok(Modulation::Robust),
+            1 => Ok(Modulation::Dbpsk),
+            2 => Ok(Modulation::Dqpsk),
+            3 => Ok(Modulation::D8psk),
+            _ => Err(UnknownModulation(number)),
         }
     }
+}
 
+impl Modulation {
     /// b: the bits that one live cell carries.
     pub fn bits_per_cell(self) -> usize
         ensures { result ≡ bits_per_cell self }

@@ -1,7 +1,7 @@
 //! How many bytes a header's payload has, and how many rows its frame.
 ghost use Rattle.std.specs.Prelude.{◌≡◌, ◌≤◌};
 ghost use Rattle.frame.specs.Refusals.{first_beyond, legal_tone_map};
-ghost use Rattle.frame.specs.Sizes.{live_carriers, coded_bits, block_bytes};
+ghost use Rattle.frame.specs.Sizes.{live_carriers, payload_rows, row_count, coded_bits, block_bytes};
 ghost use Rattle.frame.specs.Answers.{size_answer};
 
 use crate::headers::{DT_HIGHEST, FL_HIGHEST, Header, MOD_HIGHEST, PDC_HIGHEST, TM_HIGHEST};
@@ -18,9 +18,13 @@ const SIX_BANDS: u32 = 64;
 const BLOCK_LONGEST: usize = 255;
 
 /// A sub-band has this many carriers.
-const BAND_CARRIERS: usize = 6;
+pub const BAND_CARRIERS: usize = 6;
 
-const HEADER_ROWS: usize = 13;
+/// A frame begins with this many rows of header.
+pub const HEADER_ROWS: usize = 13;
+
+/// A unit of FL has this many payload rows.
+const UNIT_ROWS: usize = 4;
 
 /// The first field, in the order of sending, that holds more than its bits can.
 fn first_beyond(header: Header) -> Option<Field>
@@ -48,33 +52,44 @@ fn legal_tone_map(tm: u32) -> bool
     tm / SIX_BANDS == 0 && tm % SIX_BANDS != 0
 }
 
-/// m: the carriers that are live for the payload.
-fn live_carriers(tm: u32) -> usize
-    requires { tm ≤ 63 }
-    ensures value { result ≡ live_carriers tm }
-    ensures bound { result ≤ 36 }
-{
-    BAND_CARRIERS * tm.count_ones() as usize
-}
+impl Header {
+    /// m: the carriers that are live for the payload, six for each bit of the tone map.
+    pub fn live_carriers(self) -> usize
+        ensures value { result ≡ live_carriers self.tm }
+        ensures most { result ≤ 192 }
+    {
+        BAND_CARRIERS * self.tm.count_ones() as usize
+    }
 
-/// P: the bits that the payload rows carry, each of its copies counted once.
-fn coded_bits(modulation: Modulation, fl: u32, tm: u32) -> usize
-    requires fl { fl ≤ 63 }
-    requires tm { tm ≤ 63 }
-    ensures { result ≡ coded_bits modulation fl tm }
-{
-    let cells = live_carriers(tm) * (4 * fl as usize);
-    cells * modulation.bits_per_cell() / modulation.copies()
-}
+    /// n: the payload's rows, four for each unit of FL.
+    pub fn payload_rows(self) -> usize
+        ensures { result ≡ payload_rows self.fl }
+    {
+        UNIT_ROWS * self.fl as usize
+    }
 
-/// R: the bytes of the Reed-Solomon block, payload and parity together.
-fn block_bytes(modulation: Modulation, fl: u32, tm: u32) -> usize
-    requires fl { fl ≤ 63 }
-    requires tm { tm ≤ 63 }
-    ensures { result ≡ block_bytes modulation fl tm }
-{
-    let bits = coded_bits(modulation, fl, tm);
-    if bits < 12 { 0 } else { (bits / 2 - 6) / 8 }
+    /// All rows of the frame, the header's and the payload's.
+    pub fn row_count(self) -> usize
+        ensures { result ≡ row_count self.fl }
+    {
+        HEADER_ROWS + self.payload_rows()
+    }
+
+    /// P: the bits that the payload rows carry in a modulation, each of its copies counted once.
+    fn coded_bits(self, modulation: Modulation) -> usize
+        ensures { result ≡ coded_bits modulation self.fl self.tm }
+    {
+        let cells = self.live_carriers() * self.payload_rows();
+        cells * modulation.bits_per_cell() / modulation.copies()
+    }
+
+    /// R: the bytes of the Reed-Solomon block in a modulation, payload and parity together.
+    fn block_bytes(self, modulation: Modulation) -> usize
+        ensures { result ≡ block_bytes modulation self.fl self.tm }
+    {
+        let bits = self.coded_bits(modulation);
+        if bits < 12 { 0 } else { (bits / 2 - 6) / 8 }
+    }
 }
 
 /// The payload's length N in bytes and the frame's row count, of a legal header.
@@ -92,14 +107,14 @@ pub fn size(header: Header) -> Result<(usize, usize), Refusal>
     if header.dt > DT_USED {
         return Err(Refusal::Reserved(header.dt));
     }
-    let modulation = Modulation::from_number(header.modulation);
-    let block = block_bytes(modulation, header.fl, header.tm);
+    let modulation = header.payload_modulation();
+    let block = header.block_bytes(modulation);
     let parity = 2 * modulation.correctable();
     if block < parity + 1 {
         Err(Refusal::BlockTooShort(block))
     } else if block > BLOCK_LONGEST {
         Err(Refusal::BlockTooLong(block))
     } else {
-        Ok((block - parity, HEADER_ROWS + 4 * header.fl as usize))
+        Ok((block - parity, header.row_count()))
     }
 }

@@ -5,6 +5,7 @@ ghost use Rattle.framecoder.specs.Answers.{refused, told};
 
 use stage::Refusal;
 
+// C interface: numbers that a C program reads, 0 where there is nothing to tell, in place of a `Result`.
 /// The answer of a call: the length of the list at the front of the result buffer, or a refusal.
 #[repr(C)]
 #[derive(Clone, Copy)]
@@ -21,34 +22,35 @@ pub struct Answer {
     pub depth: usize,
 }
 
-impl Answer {
-    /// The answer that tells a refusal.
-    pub fn of_refusal(refusal: Refusal) -> Answer
-        ensures { result ≡ refused refusal }
-    {
-        let number = refusal.number() as u32;
+/// The answer that tells a refusal.
+impl From<Refusal> for Answer {
+    ghost from_gives = { λ e r. r ≡ refused e };
+
+    fn from(refusal: Refusal) -> Answer {
+        let bare = Answer {
+            refusal: refusal.number() as u32,
+            stage: 0,
+            length: 0,
+            place: 0,
+            depth: 0,
+        };
         match refusal {
             Refusal::Fault(chain) => Answer {
-                refusal: number,
                 stage: chain.fault.number as u32,
-                length: 0,
                 place: chain.fault.place,
                 depth: chain.depth,
+                ..bare
             },
-            _ => Answer {
-                refusal: number,
-                stage: 0,
-                length: 0,
-                place: 0,
-                depth: 0,
-            },
+            _ => bare,
         }
     }
+}
 
-    /// The answer that tells what a call of a stage answered.
-    pub fn of_call(answer: Result<usize, Refusal>) -> Answer
-        ensures { result ≡ told answer }
-    {
+/// The answer that tells what a call of a stage answered.
+impl From<Result<usize, Refusal>> for Answer {
+    ghost from_gives = { λ a r. r ≡ told a };
+
+    fn from(answer: Result<usize, Refusal>) -> Answer {
         match answer {
             Ok(length) => Answer {
                 refusal: 0,
@@ -57,7 +59,7 @@ impl Answer {
                 place: 0,
                 depth: 0,
             },
-            Err(refusal) => Answer::of_refusal(refusal),
+            Err(refusal) => Answer::from(refusal),
         }
     }
 }

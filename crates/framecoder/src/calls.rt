@@ -7,6 +7,7 @@ ghost use Rattle.std.specs.Result.{result_map_both};
 use crate::answers::Answer;
 use stage::{Refusal, Stage};
 
+// Two functions alike: what the two calls leave in the buffers differs, and each contract says which.
 /// Codes `list` with a stage, or tells why its settings make none.
 pub fn code_with<S: Stage + Drop>(
     stage: Result<S, Refusal>,
@@ -18,8 +19,8 @@ pub fn code_with<S: Stage + Drop>(
     ensures buffers { CodeLeaves (result_map_both S.Stage.model (λ e. e) stage) list.now work.old res.old work.new res.new }
 {
     match stage {
-        Ok(stage) => Answer::of_call(stage.code(list, work, res)),
-        Err(refusal) => Answer::of_refusal(refusal),
+        Ok(stage) => Answer::from(stage.code(list, work, res)),
+        Err(refusal) => Answer::from(refusal),
     }
 }
 
@@ -34,7 +35,7 @@ pub fn decode_with<S: Stage + Drop>(
     ensures buffers { DecodeLeaves (result_map_both S.Stage.model (λ e. e) stage) list.now work.old res.old work.new res.new }
 {
     match stage {
-        Ok(stage) => Answer::of_call(stage.decode(list, work, res)),
-        Err(refusal) => Answer::of_refusal(refusal),
+        Ok(stage) => Answer::from(stage.decode(list, work, res)),
+        Err(refusal) => Answer::from(refusal),
     }
 }

@@ -22,6 +22,7 @@ use interleave::Interleave;
 use phases::{Difference, Map};
 use reedsolomon::ReedSolomon;
 
+// C interface: a function for each stage, since C has no generics.
 /// Codes by stage 1: 28 bits and their five check bits.
 #[unsafe(no_mangle)]
 pub extern "C" fn framecoder_check_code(list: &[u8], work: &mut [u8], res: &mut [u8]) -> Answer

@@ -1,12 +1,14 @@
 -- The steps of a walk: modulo n, a sum goes on by what is added.
-use Rattle.std.proofs.Common.{◌≡◌, ℕ, ◌+◌, ◌-◌, ◌*◌, ◌/◌, ◌%◌, ◌<◌, ◌≤◌, cond, ltb, ◌⊎◌, sym, ap, ◌∙◌, subst, inl, inr, mod-eq_of_lt, mul_comm, add-mul, mul-pos, mul-add, arith}
+use Rattle.std.proofs.Common.{◌≡◌, ℕ, ◌+◌, ◌-◌, ◌*◌, ◌/◌, ◌%◌, ◌<◌, ◌≤◌, cond, ltb, ◌⊎◌, refl, sym, ap, ◌∙◌, subst, inl, inr, mod-eq_of_lt, mul_comm, add-mul, mul-pos, mul-add, arith}
 use native.Mathlib.Nat.{add-mod, add-mul-mod_self_left, div-add-mod}
 use Rattle.std.proofs.lemmas.Bool.{cases_lt, cond-true, cond-false, lt-ltb, le-ltb}
 use Rattle.std.proofs.lemmas.Nat.{div-add-mod', div-mul-add, mod-mul-add, div_below, mod_below, mul-add-lt}
 use Rattle.interleave.specs.Factors.{smallest_apart}
-use Rattle.interleave.specs.Places.{Steps, column_to, first_step, place_by, steps_of}
 use Rattle.interleave.specs.Interleavings.{goes_to}
-use Rattle.interleave.specs.Walks.{stepping, At}
+use Rattle.interleave.specs.Places.{Steps, column_to, first_step, place_by, steps_of}
+use Rattle.interleave.specs.declared.strides.Steps as declared
+use Rattle.interleave.specs.declared.strides.Stride.{Stride}
+use Rattle.interleave.specs.Walks.{stepping, steps_in, At, Along, Down}
 
 -- a number below twice the end
 pub less_end : (s e : ℕ) → e ≤ s → s < e + e → s - e ≡ s % e
@@ -18,26 +20,20 @@ less_end s e l h =
 sum_more : (a b c d m : ℕ) → c ≡ a % m → d ≡ b % m → (c + d) % m ≡ (a + b) % m
 sum_more a b c d m p q = ap (λ x. (x + d) % m) p ∙ ap (λ x. (a % m + x) % m) q ∙ sym (add-mod a b m)
 
-pub slide_below : (ni n s : ℕ) → 0 < n → s ≡ ni % n → s < n
-slide_below ni n s many e = omega (arith, mod_below ni n many)
-
-pub turn_below : (n s a : ℕ) → 0 < n → s ≡ a % n → s < n
-turn_below n s a many e = omega (arith, mod_below a n many)
-
 -- the new row goes on
-pub row_more : (nj ni n j i row s : ℕ) → row ≡ (j * nj + i * ni) % n → s ≡ ni % n → (row + s) % n ≡ (j * nj + (i + 1) * ni) % n
+row_more : (nj ni n j i row s : ℕ) → row ≡ (j * nj + i * ni) % n → s ≡ ni % n → (row + s) % n ≡ (j * nj + (i + 1) * ni) % n
 row_more nj ni n j i row s p q =
     let e : j * nj + i * ni + ni ≡ j * nj + (i + 1) * ni = omega (arith, add-mul i 1 ni) in
     sum_more (j * nj + i * ni) ni row s n p q ∙ ap (λ x. x % n) e
 
 -- the new column goes on with the new row
-pub column_on : (mi mj m i row s target d : ℕ) → target ≡ (i * mi + row * mj) % m → d ≡ (mi + s * mj) % m → (target + d) % m ≡ ((i + 1) * mi + (row + s) * mj) % m
+column_on : (mi mj m i row s target d : ℕ) → target ≡ (i * mi + row * mj) % m → d ≡ (mi + s * mj) % m → (target + d) % m ≡ ((i + 1) * mi + (row + s) * mj) % m
 column_on mi mj m i row s target d p q =
     let e : i * mi + row * mj + (mi + s * mj) ≡ (i + 1) * mi + (row + s) * mj = omega (arith, add-mul i 1 mi, add-mul row s mj) in
     sum_more (i * mi + row * mj) (mi + s * mj) target d m p q ∙ ap (λ x. x % m) e
 
 -- and where the new row begins again
-pub column_over : (mi mj m n i row s target d : ℕ) → 0 < m → n ≤ row + s → target ≡ (i * mi + row * mj) % m → d ≡ (mi + s * mj + (m - n * mj % m)) % m → (target + d) % m ≡ ((i + 1) * mi + (row + s - n) * mj) % m
+column_over : (mi mj m n i row s target d : ℕ) → 0 < m → n ≤ row + s → target ≡ (i * mi + row * mj) % m → d ≡ (mi + s * mj + (m - n * mj % m)) % m → (target + d) % m ≡ ((i + 1) * mi + (row + s - n) * mj) % m
 column_over mi mj m n i row s target d some l p q =
     let back : row + s ≡ (row + s - n) + n = omega arith in
     let rows : (row + s) * mj ≡ (row + s - n) * mj + n * mj = ap (λ x. x * mj) back ∙ add-mul (row + s - n) n mj in
@@ -55,17 +51,17 @@ ends_more : (a n : ℕ) → 0 < n → a + (n - a % n) ≡ n * (a / n + 1)
 ends_more a n some = omega (arith, div-add-mod a n, mul-add n (a / n) 1, mod_below a n some)
 
 -- from the last column back to the first, and a row on
-pub row_down : (nj ni n j i row s : ℕ) → 0 < n → row ≡ (j * nj + i * ni) % n → s ≡ (nj + (n - i * ni % n)) % n → (row + s) % n ≡ ((j + 1) * nj) % n
+row_down : (nj ni n j i row s : ℕ) → 0 < n → row ≡ (j * nj + i * ni) % n → s ≡ (nj + (n - i * ni % n)) % n → (row + s) % n ≡ ((j + 1) * nj) % n
 row_down nj ni n j i row s many p q =
     let e : j * nj + i * ni + (nj + (n - i * ni % n)) ≡ (j + 1) * nj + n * (i * ni / n + 1) = omega (arith, add-mul j 1 nj, ends_more (i * ni) n many) in
     sum_more (j * nj + i * ni) (nj + (n - i * ni % n)) row s n p q ∙ ap (λ x. x % n) e ∙ add-mul-mod_self_left ((j + 1) * nj) n (i * ni / n + 1)
 
-pub column_back : (mi mj m i row s target d : ℕ) → 0 < m → target ≡ (i * mi + row * mj) % m → d ≡ (s * mj + (m - i * mi % m)) % m → (target + d) % m ≡ ((row + s) * mj) % m
+column_back : (mi mj m i row s target d : ℕ) → 0 < m → target ≡ (i * mi + row * mj) % m → d ≡ (s * mj + (m - i * mi % m)) % m → (target + d) % m ≡ ((row + s) * mj) % m
 column_back mi mj m i row s target d some p q =
     let e : i * mi + row * mj + (s * mj + (m - i * mi % m)) ≡ (row + s) * mj + m * (i * mi / m + 1) = omega (arith, add-mul row s mj, ends_more (i * mi) m some) in
     sum_more (i * mi + row * mj) (s * mj + (m - i * mi % m)) target d m p q ∙ ap (λ x. x % m) e ∙ add-mul-mod_self_left ((row + s) * mj) m (i * mi / m + 1)
 
-pub column_back_over : (mi mj m n i row s target d : ℕ) → 0 < m → n ≤ row + s → target ≡ (i * mi + row * mj) % m → d ≡ (s * mj + (m - i * mi % m) + (m - n * mj % m)) % m → (target + d) % m ≡ ((row + s - n) * mj) % m
+column_back_over : (mi mj m n i row s target d : ℕ) → 0 < m → n ≤ row + s → target ≡ (i * mi + row * mj) % m → d ≡ (s * mj + (m - i * mi % m) + (m - n * mj % m)) % m → (target + d) % m ≡ ((row + s - n) * mj) % m
 column_back_over mi mj m n i row s target d some l p q =
     let back : row + s ≡ (row + s - n) + n = omega arith in
     let rows : (row + s) * mj ≡ (row + s - n) * mj + n * mj = ap (λ x. x * mj) back ∙ add-mul (row + s - n) n mj in
@@ -182,8 +178,68 @@ walk_column s m n t column row target base some h = omega (arith, h.column_is, m
 pub walk_row : (s : Steps) (m n t column row target base : ℕ) → 0 < n → At s m n t column row target base → row < n
 walk_row s m n t column row target base many h = omega (arith, h.row_is, mod_below (t % (m * n) / m * s.row_by_row + t % (m * n) % m * s.row_by_column) n many)
 
-pub walk_target : (s : Steps) (m n t column row target base : ℕ) → 0 < m → At s m n t column row target base → target < m
-walk_target s m n t column row target base some h = omega (arith, h.target_is, mod_below (t % (m * n) % m * s.column_by_column + row * s.column_by_row) m some)
+-- a bit further in a row: the new row and the new column go on by the stride
+along_target : (st : declared.Steps) (m n : ℕ) (d : Stride) (column row target target' : ℕ) → 0 < m → row < n → d.rows < n → Along st m n d → target ≡ (column * st.column_by_column + row * st.column_by_row) % m → target' ≡ (target + cond (ltb (row + d.rows) n) d.on d.over) % m → target' ≡ ((column + 1) * st.column_by_column + (row + d.rows) % n * st.column_by_row) % m
+along_target st m n d column row target target' some inside small along here e = of (cases_lt (row + d.rows) n)
+  where
+    of : (row + d.rows < n) ⊎ (n ≤ row + d.rows) → target' ≡ ((column + 1) * st.column_by_column + (row + d.rows) % n * st.column_by_row) % m
+    of (inl l) =
+        e
+        ∙ ap (λ x. (target + x) % m) (cond-true (ltb (row + d.rows) n) d.on d.over (lt-ltb (row + d.rows) n l))
+        ∙ column_on st.column_by_column st.column_by_row m column row d.rows target d.on here along.on_is
+        ∙ ap (λ x. ((column + 1) * st.column_by_column + x * st.column_by_row) % m) (sym (mod-eq_of_lt l))
+    of (inr l) =
+        e
+        ∙ ap (λ x. (target + x) % m) (cond-false (ltb (row + d.rows) n) d.on d.over (le-ltb (row + d.rows) n l))
+        ∙ column_over st.column_by_column st.column_by_row m n column row d.rows target d.over some l here along.over_is
+        ∙ ap (λ x. ((column + 1) * st.column_by_column + x * st.column_by_row) % m) (less_end (row + d.rows) n l (omega arith))
 
-pub walk_base : (s : Steps) (m n t column row target base : ℕ) → At s m n t column row target base → base ≤ t
-walk_base s m n t column row target base h = omega (arith, h.base_is, div-add-mod' t (m * n))
+down_target : (st : declared.Steps) (m n : ℕ) (d : Stride) (row target target' : ℕ) → 0 < m → row < n → d.rows < n → Down st m n d → target ≡ ((m - 1) * st.column_by_column + row * st.column_by_row) % m → target' ≡ (target + cond (ltb (row + d.rows) n) d.on d.over) % m → target' ≡ ((row + d.rows) % n * st.column_by_row) % m
+down_target st m n d row target target' some inside small down here e = of (cases_lt (row + d.rows) n)
+  where
+    of : (row + d.rows < n) ⊎ (n ≤ row + d.rows) → target' ≡ ((row + d.rows) % n * st.column_by_row) % m
+    of (inl l) =
+        e
+        ∙ ap (λ x. (target + x) % m) (cond-true (ltb (row + d.rows) n) d.on d.over (lt-ltb (row + d.rows) n l))
+        ∙ column_back st.column_by_column st.column_by_row m (m - 1) row d.rows target d.on some here down.on_is
+        ∙ ap (λ x. (x * st.column_by_row) % m) (sym (mod-eq_of_lt l))
+    of (inr l) =
+        e
+        ∙ ap (λ x. (target + x) % m) (cond-false (ltb (row + d.rows) n) d.on d.over (le-ltb (row + d.rows) n l))
+        ∙ column_back_over st.column_by_column st.column_by_row m n (m - 1) row d.rows target d.over some l here down.over_is
+        ∙ ap (λ x. (x * st.column_by_row) % m) (less_end (row + d.rows) n l (omega arith))
+
+-- how far a stride goes
+pub along_small : (st : declared.Steps) (m n : ℕ) (d : Stride) → 0 < m → 0 < n → Along st m n d → (d.rows < n) × (d.on < m) × (d.over < m)
+along_small st m n d some many h = (
+  omega (arith, h.rows_are, mod_below st.row_by_column n many),
+  omega (arith, h.on_is, mod_below (st.column_by_column + d.rows * st.column_by_row) m some),
+  omega (arith, h.over_is, mod_below (st.column_by_column + d.rows * st.column_by_row + (m - n * st.column_by_row % m)) m some),
+)
+
+pub down_small : (st : declared.Steps) (m n : ℕ) (d : Stride) → 0 < m → 0 < n → Down st m n d → (d.rows < n) × (d.on < m) × (d.over < m)
+down_small st m n d some many h = (
+  omega (arith, h.rows_are, mod_below (st.row_by_row + (n - (m - 1) * st.row_by_column % n)) n many),
+  omega (arith, h.on_is, mod_below (d.rows * st.column_by_row + (m - (m - 1) * st.column_by_column % m)) m some),
+  omega (arith, h.over_is, mod_below (d.rows * st.column_by_row + (m - (m - 1) * st.column_by_column % m) + (m - n * st.column_by_row % m)) m some),
+)
+
+-- the walk one bit on, in the same row and in the next
+pub goes_along : (st : declared.Steps) (m n : ℕ) (d : Stride) (t column row target base row' target' : ℕ) → 0 < m → 0 < n → steps_in st ≡ steps_of m n → Along st m n d → column + 1 < m → At (steps_of m n) m n t column row target base → row' ≡ (row + d.rows) % n → target' ≡ (target + cond (ltb (row + d.rows) n) d.on d.over) % m → At (steps_of m n) m n (t + 1) (column + 1) row' target' base
+goes_along st m n d t column row target base row' target' some many same along l here er et =
+    let inside = walk_row (steps_of m n) m n t column row target base many here in
+    let h = subst (λ (s : Steps). At s m n t column row target base) (sym same) here in
+    let from : target ≡ (column * st.column_by_column + row * st.column_by_row) % m = h.target_is ∙ ap (λ x. (x * st.column_by_column + row * st.column_by_row) % m) (sym h.column_is) in
+    let to = along_target st m n d column row target target' some inside (along_small st m n d some many along).0 along from et ∙ ap (λ x. ((column + 1) * st.column_by_column + x * st.column_by_row) % m) (sym er) in
+    subst (λ (s : Steps). At s m n (t + 1) (column + 1) row' target' base) same
+    (walk_on st.column_by_column st.column_by_row st.row_by_row st.row_by_column m n t column row target base (column + 1) row' target' base d.rows some many l along.rows_are h refl er to refl)
+
+pub goes_down : (st : declared.Steps) (m n : ℕ) (d : Stride) (t column row target base row' target' base' : ℕ) → 0 < m → 0 < n → steps_in st ≡ steps_of m n → Down st m n d → m ≤ column + 1 → At (steps_of m n) m n t column row target base → row' ≡ (row + d.rows) % n → target' ≡ (target + cond (ltb (row + d.rows) n) d.on d.over) % m → base' ≡ cond (ltb (t + 1) (base + m * n)) base (base + m * n) → At (steps_of m n) m n (t + 1) 0 row' target' base'
+goes_down st m n d t column row target base row' target' base' some many same down l here er et eb =
+    let inside = walk_row (steps_of m n) m n t column row target base many here in
+    let last : column ≡ m - 1 = omega (arith, walk_column (steps_of m n) m n t column row target base some here) in
+    let h = subst (λ (s : Steps). At s m n t column row target base) (sym same) here in
+    let from : target ≡ ((m - 1) * st.column_by_column + row * st.column_by_row) % m = h.target_is ∙ ap (λ x. (x * st.column_by_column + row * st.column_by_row) % m) (sym h.column_is ∙ last) in
+    let to = down_target st m n d row target target' some inside (down_small st m n d some many down).0 down from et ∙ ap (λ x. (x * st.column_by_row) % m) (sym er) in
+    subst (λ (s : Steps). At s m n (t + 1) 0 row' target' base') same
+    (walk_down st.column_by_column st.column_by_row st.row_by_row st.row_by_column m n t column row target base 0 row' target' base' d.rows some many last down.rows_are h refl er to eb)

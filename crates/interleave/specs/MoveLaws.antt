@@ -1,5 +1,5 @@
 -- A stage that moves bits one-to-one is sound.
-use Rattle.std.specs.Prelude.{◌≡◌, ℕ, zero, suc, ◌+◌, ◌*◌, ◌/◌, ◌%◌, ◌<◌, ◌≤◌, Bool, true, false, cond, ◌&&◌, ◌⊎◌, List, length, Some, None, ◌==◌, ◌≢◌, nat_le, slice_index, slice_index_or, refl}
+use Rattle.std.specs.Prelude.{◌≡◌, ℕ, zero, suc, ◌+◌, ◌*◌, ◌/◌, ◌%◌, ◌<◌, ◌≤◌, true, ◌&&◌, ◌⊎◌, List, length, Some, None, ◌==◌, ◌≢◌, nat_le, slice_index, slice_index_or}
 use Rattle.std.proofs.Common.{sym, ap, subst, ◌∙◌, inl, inr, arith, mul_comm, mul-pos}
 use Rattle.std.proofs.lemmas.List.FromFn.{length-map-range_with_len, get_or-map-range_with_len}
 use Rattle.std.proofs.lemmas.Nat.{div-add-mod', div_below, mod_below, mul-add-lt, mul-le}
@@ -8,16 +8,13 @@ use Rattle.stage.specs.Plain.{within}
 use Rattle.stage.specs.Model.{plain, legal, longest_list}
 use Rattle.stage.specs.Sound.{Sound}
 use Rattle.stage.specs.Lists.{value_of_some, within_at, within_from, same_by_places}
-use Rattle.stage.proofs.Plains.{plain_keeps}
+use Rattle.stage.specs.AgreementLaws.{some_under_test}
+use Rattle.stage.specs.Plains.{plain_keeps}
 use Rattle.stage.specs.Legality.{legal_within, legal_length}
 use Rattle.interleave.specs.Places.{OneToOne, place}
 use Rattle.interleave.specs.Interleavings.{known_sizes, goes_to, comes_from, moved, nearest_bit, fetched, exactly, moving, interleaving, KeepsThePromise}
 use Rattle.interleave.specs.Pigeonholes.{every_place_is_hit}
 use Rattle.interleave.specs.PlaceLaws.{same_parts, block_one_to_one}
-
-some_under_test : (b : Bool) (n k : ℕ) → cond b (Some n) None ≡ Some k → (b ≡ true) × (n ≡ k)
-some_under_test true n k h = (refl, (cc))
-some_under_test false n k h = let z : ◌≡◌ {A = ℕ} 0 1 = cc in absurd (omega arith)
 
 pub exactly_is : (count n k : ℕ) → exactly count n ≡ Some k → (n ≡ count) × (count ≡ k)
 exactly_is count n k h = let u = some_under_test (n == count) count k h in (eqb-true n count u.0, u.1)
@@ -144,9 +141,18 @@ sizes_known m n b h =
     let blocks = and_parts (nat_le 1 b) (nat_le b 3) behind.1 in
     ((omega (arith, leb-true 6 m row.0), leb-true m 36 row.1), ((omega (arith, leb-true 1 n rows.0), leb-true n 252 rows.1), leb-true b 3 blocks.1))
 
-pub interleaving_keeps : KeepsThePromise
-interleaving_keeps m n b h =
+pub known_few : (m n b : ℕ) → known_sizes m n b ≡ true → m * n * b ≤ longest_list
+known_few m n b h =
     let k = sizes_known m n b h in
     let block : m * n ≤ 36 * 252 = mul-le m n 36 252 k.0.1 k.1.0.1 in
     let few : m * n * b ≤ 36 * 252 * 3 = mul-le (m * n) b (36 * 252) 3 block k.1.1 in
-    plain_keeps (interleaving m n b) (moving_sound (m * n * b) (goes_to m n) (omega arith) (goes_one_to_one m n b k.0.0 k.1.0.0))
+    omega arith
+
+pub known_one_to_one : (m n b : ℕ) → known_sizes m n b ≡ true → OneToOne (m * n * b) (goes_to m n)
+known_one_to_one m n b h = let k = sizes_known m n b h in goes_one_to_one m n b k.0.0 k.1.0.0
+
+pub interleaving_sound : (m n b : ℕ) → known_sizes m n b ≡ true → Sound (interleaving m n b)
+interleaving_sound m n b h = moving_sound (m * n * b) (goes_to m n) (known_few m n b h) (known_one_to_one m n b h)
+
+pub interleaving_keeps : KeepsThePromise
+interleaving_keeps m n b h = plain_keeps (interleaving m n b) (interleaving_sound m n b h)

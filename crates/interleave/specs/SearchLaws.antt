@@ -1,8 +1,12 @@
 -- The search finds the smallest number without a common factor.
-use Rattle.std.specs.Prelude.{◌≡◌, ℕ, zero, suc, ◌+◌, ◌-◌, ◌*◌, ◌/◌, ◌%◌, ◌<◌, ◌≤◌, Bool, true, false, not, ◌||◌, ◌⊎◌, ◌==◌, ◌≢◌, nat_lt, refl}
+use Rattle.std.specs.Prelude.{◌≡◌, ℕ, zero, suc, ◌+◌, ◌-◌, ◌*◌, ◌/◌, ◌%◌, ◌<◌, ◌≤◌, Bool, true, false, not, ◌||◌, ◌⊎◌, ◌==◌, ◌≢◌, nat_lt, refl, length, Some, None, Option}
 use Rattle.std.proofs.Common.{sym, ap, subst, ◌∙◌, inl, inr, arith, mod-eq_of_lt, mod-lt, mul_assoc, div-add-mod'}
 use Rattle.std.proofs.Math.Nat.{mod-zero, mod-mod, add-mod, mul-mod_left}
 use Rattle.std.proofs.lemmas.Bool.{and_parts, and_from, eqb-true, eq-eqb, ltb-true, lt-ltb, or_cases, or_left, or_right, cases_lt, cases_eq, cases_Bool, not_from_false, cond-true, cond-false, true≢false}
+use Rattle.std.specs.Bool.{MatchBool}
+use Rattle.std.specs.List.{range_with_len, AllWithin, HoldsAt}
+use Rattle.std.specs.Option.{MatchOption, unwrap_or}
+use Rattle.std.proofs.lemmas.List.FromFn.{length-range_with_len, get_or-range_with_len}
 use Rattle.interleave.specs.Factors.{Divides, NoCommonFactor, Smallest, divides_both, apart_below, are_apart, first_apart, smallest_apart, FindsTheSmallest}
 
 denied : (x : Bool) → not x ≡ true → x ≡ false
@@ -112,11 +116,15 @@ finds_the_smallest m start some =
     let rest = mod-lt (start + m - 1) {m = m} some in
     search_finds m m start ((start + m - 1) / m * m + 1) some (omega arith) (omega arith) (next_to_multiple ((start + m - 1) / m) m)
 
--- the steps of the two loops
-pub apart_more : (d a b : ℕ) → apart_below d a b ≡ true → divides_both d a b ≡ false → apart_below (d + 1) a b ≡ true
-apart_more d a b h f =
-    let e : d + 1 ≡ suc d = omega arith in
-    ap (λ x. apart_below x a b) e ∙ and_from (apart_below d a b) (nat_lt d 2 || not (divides_both d a b)) h (or_right (nat_lt d 2) (not (divides_both d a b)) (not_from_false (divides_both d a b) f))
+-- a trial that comes to its end, and one that does not
+pub apart_all : (end a b : ℕ) → ((d : ℕ) → 2 ≤ d → d < end → divides_both d a b ≡ false) → apart_below end a b ≡ true
+apart_all zero a b h = refl
+apart_all (suc end) a b h =
+    and_from (apart_below end a b) (nat_lt end 2 || not (divides_both end a b)) (apart_all end a b (λ d l s. h d l (omega arith))) (of (cases_lt end 2))
+  where
+    of : (end < 2) ⊎ (2 ≤ end) → (nat_lt end 2 || not (divides_both end a b)) ≡ true
+    of (inl l) = or_left (nat_lt end 2) (not (divides_both end a b)) (lt-ltb end 2 l)
+    of (inr l) = or_right (nat_lt end 2) (not (divides_both end a b)) (not_from_false (divides_both end a b) (h end l (omega arith)))
 
 pub apart_fails : (d a b : ℕ) → 2 ≤ d → d < b + 1 → divides_both d a b ≡ true → false ≡ are_apart a b
 apart_fails d a b l s h = of (cases_Bool (are_apart a b))
@@ -125,23 +133,34 @@ apart_fails d a b l s h = of (cases_Bool (are_apart a b))
     of (inl t) = absurd (true≢false (sym h ∙ tried (b + 1) a b d t l s))
     of (inr t) = sym t
 
-pub apart_all : (d a b : ℕ) → d ≡ b + 1 → apart_below d a b ≡ true → true ≡ are_apart a b
-apart_all d a b e h = sym h ∙ ap (λ x. apart_below x a b) e
+-- what a trial of all numbers from 2 to the second comes to
+pub tried_all : (a b : ℕ) (r : Bool) → MatchBool r (AllWithin (λ d. divides_both d a b ≡ false) (range_with_len 2 (b + 1 - 2)) 0 (length (range_with_len 2 (b + 1 - 2)))) ((k : ℕ) × (k < length (range_with_len 2 (b + 1 - 2))) × HoldsAt (λ d. divides_both d a b ≡ true) (range_with_len 2 (b + 1 - 2)) k) → r ≡ are_apart a b
+tried_all a b true h =
+    let long = length-range_with_len 2 (b + 1 - 2) in
+    sym (apart_all (b + 1) a b (λ d l s.
+    subst (λ x. divides_both x a b ≡ false) (get_or-range_with_len 2 (b + 1 - 2) (d - 2) 0 (omega arith) ∙ omega arith) (h (d - 2) 0 (omega arith) (omega arith))))
+tried_all a b false h =
+    let inside : h.0 < b + 1 - 2 = omega (arith, h.1, length-range_with_len 2 (b + 1 - 2)) in
+    apart_fails (2 + h.0) a b (omega arith) (omega arith) (subst (λ x. divides_both x a b ≡ true) (get_or-range_with_len 2 (b + 1 - 2) h.0 0 inside) (h.2 0))
 
-pub search_more : (m end k found : ℕ) → k < end → are_apart k m ≡ false → first_apart m (end - k) k ≡ found → first_apart m (end - (k + 1)) (k + 1) ≡ found
-search_more m end k found l f h =
-    let e : end - k ≡ suc (end - (k + 1)) = omega arith in
-    sym (cond-false (are_apart k m) k (first_apart m (end - (k + 1)) (k + 1)) f) ∙ ap (λ x. first_apart m x k) (sym e) ∙ h
+-- a search that finds, and one that does not
+pub found_first : (m count start i : ℕ) → start ≤ i → i < start + count → are_apart i m ≡ true → ((k : ℕ) → start ≤ k → k < i → are_apart k m ≡ false) → i ≡ first_apart m count start
+found_first m zero start i l s h before = absurd (omega arith)
+found_first m (suc count) start i l s h before = of (cases_eq start i) (λ a b. found_first m count (start + 1) i a b h (λ k c d. before k (omega arith) d))
+  where
+    of : (start ≡ i) ⊎ (start ≢ i) → (start + 1 ≤ i → i < start + 1 + count → i ≡ first_apart m count (start + 1)) → i ≡ first_apart m (suc count) start
+    of (inl e) again = sym e ∙ sym (cond-true (are_apart start m) start (first_apart m count (start + 1)) (ap (λ x. are_apart x m) e ∙ h))
+    of (inr e) again =
+        again (omega arith) (omega arith) ∙ sym (cond-false (are_apart start m) start (first_apart m count (start + 1)) (before start (omega arith) (omega arith)))
 
-pub search_here : (m end k found : ℕ) → k < end → are_apart k m ≡ true → first_apart m (end - k) k ≡ found → k ≡ found
-search_here m end k found l f h =
-    let e : end - k ≡ suc (end - (k + 1)) = omega arith in
-    sym (cond-true (are_apart k m) k (first_apart m (end - (k + 1)) (k + 1)) f) ∙ ap (λ x. first_apart m x k) (sym e) ∙ h
+pub found_none : (m count start : ℕ) → ((k : ℕ) → start ≤ k → k < start + count → are_apart k m ≡ false) → start + count ≡ first_apart m count start
+found_none m zero start none = omega arith
+found_none m (suc count) start none =
+    let rest = found_none m count (start + 1) (λ k a b. none k (omega arith) (omega arith)) in
+    let e : start + suc count ≡ start + 1 + count = omega arith in
+    e ∙ rest ∙ sym (cond-false (are_apart start m) start (first_apart m count (start + 1)) (none start (omega arith) (omega arith)))
 
-pub search_over : (m end k found : ℕ) → k ≡ end → first_apart m (end - k) k ≡ found → end ≡ found
-search_over m end k found s h =
-    let e : end - k ≡ 0 = omega arith in
-    sym s ∙ ap (λ x. first_apart m x k) (sym e) ∙ h
-
-pub search_start : (m start : ℕ) → first_apart m (start + m - start) start ≡ smallest_apart m start
-search_start m start = let e : start + m - start ≡ m = omega arith in ap (λ x. first_apart m x start) e
+-- what a search comes to
+pub searched : (m start : ℕ) (r : Option ℕ) → MatchOption r ((k : ℕ) → start ≤ k → k < start + m → are_apart k m ≡ false) (λ i. (start ≤ i) × (i < start + m) × (are_apart i m ≡ true) × ((k : ℕ) → start ≤ k → k < i → are_apart k m ≡ false)) → unwrap_or r (start + m) ≡ smallest_apart m start
+searched m start None h = found_none m m start h
+searched m start (Some i) h = found_first m m start i h.0 h.1 h.2 h.3

@@ -5,7 +5,9 @@ mod blocks;
 pub mod interleavers;
 pub mod places;
 mod steps;
+mod strides;
 #[cfg(test)]
 mod tests;
+mod walks;
 
 pub use interleavers::Interleave;

@@ -17,12 +17,11 @@ fn have_none_in_common(a: usize, b: usize) -> bool
     requires few { b ≤ 252 }
     ensures { result ≡ are_apart a b }
 {
-    for d in 2..b + 1 {
-        if divides_both(d, a, b) {
-            return false;
-        }
-    }
-    true
+    (2..b + 1).all(
+        |d|
+            requires { 2 ≤ d }
+        { !divides_both(d, a, b) },
+    )
 }
 
 /// The smallest number from `start` on that has no common factor with `m`.
@@ -33,10 +32,7 @@ pub(crate) fn find_smallest(m: usize, start: usize) -> usize
     ensures found { result ≡ smallest_apart m start }
     ensures bound { result ≤ start + m }
 {
-    for k in start..start + m {
-        if have_none_in_common(k, m) {
-            return k;
-        }
-    }
-    start + m
+    (start..start + m)
+        .find(|k| have_none_in_common(*k, m))
+        .unwrap_or(start + m)
 }

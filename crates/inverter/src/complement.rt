@@ -1,15 +1,18 @@
 //! A stage that complements bits.
 
-ghost use Rattle.std.specs.Prelude.{◌≡◌, ℕ, ◌≤◌, length, Some, None};
-ghost use Rattle.stage.specs.Model.{plain};
-ghost use Rattle.inverter.specs.Complement.{complement, flip, Flipped, Restored};
-ghost use Rattle.stage.proofs.Plains.{plain_keeps};
+ghost use Rattle.std.specs.Prelude.{◌≡◌, ◌≤◌, true, map, length};
+ghost use Rattle.stage.specs.Plain.{within};
+ghost use Rattle.inverter.specs.Complement.{complement, flip};
 ghost use Rattle.inverter.specs.Complements.{complement_sound};
 
-use stage::{ChainFault, Outline, Span, Stage, StageFault};
+use stage::PlainStage;
+use stage::buffers::first_above;
 
 /// The number under which the stage's faults are known.
 const NUMBER: u8 = 101;
+
+/// The highest bit.
+const HIGHEST_BIT: u8 = 1;
 
 /// The longest list that the stage takes.
 const LONGEST: usize = 65_535;
@@ -26,81 +29,51 @@ fn other_bit(bit: u8) -> u8
     1 - bit
 }
 
-/// Complements the elements in front of `buffer`, up to the first that is no bit and at most
-/// `n`; answers how many.
-fn flip_front(n: usize, buffer: &mut [u8]) -> usize
-    requires { n ≤ length buffer.old }
-    ensures { Flipped n buffer.old buffer.new result }
+/// Writes the complement of each of `bits` over `others`.
+fn complement_all(bits: &[u8], others: &mut [u8])
+    requires bits { within 1 bits.now ≡ true }
+    requires long { length others.old ≡ length bits.now }
+    ensures { others.new ≡ map flip bits.now }
 {
-    for i in 0..n {
-        if buffer[i] > 1 {
-            return i;
+    for (i, bit) in bits.iter().enumerate() {
+        others[i] = other_bit(*bit);
+    }
+}
+
+impl PlainStage for Inverter {
+    ghost meaning = { λ _. complement };
+
+    ghost sound = { λ _. complement_sound };
+
+    fn number(&self) -> u8 {
+        NUMBER
+    }
+
+    fn takes(&self) -> u8 {
+        HIGHEST_BIT
+    }
+
+    fn puts(&self) -> u8 {
+        HIGHEST_BIT
+    }
+
+    fn coded_length(&self, length: usize) -> Option<usize> {
+        (length <= LONGEST).then_some(length)
+    }
+
+    fn message_length(&self, length: usize) -> Option<usize> {
+        (length <= LONGEST).then_some(length)
+    }
+
+    fn write_coding(&self, list: &[u8], coded: &mut [u8]) {
+        complement_all(list, coded);
+    }
+
+    fn regain(&self, received: &[u8], list: &mut [u8]) -> Option<usize> {
+        if let Some(place) = first_above(received, HIGHEST_BIT) {
+            return Some(place);
         }
-        buffer[i] = other_bit(buffer[i]);
-    }
-    n
-}
-
-/// Complements the `n` elements in front of `buffer`, or answers where one is no bit.
-fn restore(n: usize, buffer: &mut [u8]) -> Result<usize, StageFault>
-    requires { n ≤ length buffer.old }
-    ensures { Restored n buffer.old buffer.new result }
-{
-    if n > LONGEST {
-        return Err(StageFault {
-            number: NUMBER,
-            place: 0,
-        });
-    }
-    let place = flip_front(n, buffer);
-    if place < n {
-        return Err(StageFault {
-            number: NUMBER,
-            place,
-        });
-    }
-    Ok(n)
-}
-
-/// The same length, if it is legal.
-fn same_length(length: usize) -> Option<usize>
-    ensures { result ≡ complement.«coded_length» length }
-{
-    if length <= LONGEST {
-        Some(length)
-    } else {
+        complement_all(received, list);
         None
-    }
-}
-
-impl Stage for Inverter {
-    ghost model = { λ _. plain complement };
-
-    ghost keeps = { λ s h. plain_keeps complement complement_sound };
-
-    fn outline(&self) -> Outline {
-        Outline {
-            takes: 1,
-            puts: 1,
-            members: 1,
-            fit: true,
-        }
-    }
-
-    fn coded_span(&self, length: usize) -> Span {
-        Span::of(length, same_length(length))
-    }
-
-    fn decoded_span(&self, length: usize) -> Span {
-        Span::of(length, same_length(length))
-    }
-
-    fn code_in(&self, n: usize, _work: &mut [u8], res: &mut [u8]) -> usize {
-        flip_front(n, res)
-    }
-
-    fn decode_in(&self, n: usize, _work: &mut [u8], res: &mut [u8]) -> Result<usize, ChainFault> {
-        let length = restore(n, res)?;
-        Ok(length)
     }
 }

@@ -1,17 +1,19 @@
 //! A stage that puts a closing mark behind a list of bits.
 
-ghost use Rattle.std.specs.Prelude.{◌≡◌, ℕ, ◌≤◌, length};
-ghost use Rattle.stage.specs.Model.{plain};
-ghost use Rattle.inverter.specs.Mark.{marking, marked_length, unmarked_length, Leading, Unmarked};
-ghost use Rattle.stage.proofs.Plains.{plain_keeps};
+ghost use Rattle.std.specs.Prelude.{◌≡◌, ◌+◌, ◌≤◌, length};
+ghost use Rattle.inverter.specs.Mark.{marking};
 ghost use Rattle.inverter.specs.Marks.{marking_sound};
 
-use stage::{ChainFault, Outline, Span, Stage, StageFault};
+use stage::PlainStage;
+use stage::buffers::first_above;
 
 /// The number under which the stage's faults are known.
 const NUMBER: u8 = 102;
 
-/// The closing mark.
+/// The highest element that the stage takes.
+const TAKES: u8 = 1;
+
+/// The closing mark, and the highest element that the stage puts out.
 const MARK: u8 = 1;
 
 /// The longest list that the stage puts out.
@@ -21,91 +23,53 @@ const LONGEST: usize = 65_535;
 #[derive(Clone, Copy)]
 pub struct Marker;
 
-/// How many of the `n` elements in front of `buffer` are bits, up to the first that is none.
-fn leading_bits(n: usize, buffer: &[u8]) -> usize
-    requires { n ≤ length buffer.now }
-    ensures { Leading n buffer.now result }
-{
-    for i in 0..n {
-        if buffer[i] > 1 {
-            return i;
-        }
+impl PlainStage for Marker {
+    ghost meaning = { λ _. marking };
+
+    ghost sound = { λ _. marking_sound };
+
+    fn number(&self) -> u8 {
+        NUMBER
     }
-    n
-}
 
-/// The length of the list before the mark, of `n` elements in front of `buffer`, or the fault.
-fn unmark(n: usize, buffer: &[u8]) -> Result<usize, StageFault>
-    requires { n ≤ length buffer.now }
-    ensures { Unmarked n buffer.now result }
-{
-    let Some(length) = length_unmarked(n) else {
-        return Err(StageFault {
-            number: NUMBER,
-            place: 0,
-        });
-    };
-    let place = leading_bits(length, buffer);
-    if place < length || buffer[length] != MARK {
-        return Err(StageFault {
-            number: NUMBER,
-            place,
-        });
+    fn takes(&self) -> u8 {
+        TAKES
     }
-    Ok(length)
-}
 
-/// The length with a mark, if it is legal.
-fn length_marked(length: usize) -> Option<usize>
-    ensures { result ≡ marked_length length }
-{
-    if length < LONGEST {
-        Some(length + 1)
-    } else {
-        None
+    fn puts(&self) -> u8 {
+        MARK
     }
-}
 
-/// The length without the mark, if a marked list has that length.
-fn length_unmarked(length: usize) -> Option<usize>
-    ensures { result ≡ unmarked_length length }
-{
-    if 0 < length && length <= LONGEST {
-        Some(length - 1)
-    } else {
-        None
-    }
-}
-
-impl Stage for Marker {
-    ghost model = { λ _. plain marking };
-
-    ghost keeps = { λ s h. plain_keeps marking marking_sound };
-
-    fn outline(&self) -> Outline {
-        Outline {
-            takes: 1,
-            puts: 1,
-            members: 1,
-            fit: true,
+    fn coded_length(&self, length: usize) -> Option<usize> {
+        if length < LONGEST {
+            Some(length + 1)
+        } else {
+            None
         }
     }
 
-    fn coded_span(&self, length: usize) -> Span {
-        Span::of(length, length_marked(length))
+    fn message_length(&self, length: usize) -> Option<usize> {
+        if 0 < length && length <= LONGEST {
+            Some(length - 1)
+        } else {
+            None
+        }
     }
 
-    fn decoded_span(&self, length: usize) -> Span {
-        Span::of(length, length_unmarked(length))
+    fn write_coding(&self, list: &[u8], coded: &mut [u8]) {
+        coded[0..list.len()].copy_from_slice(list);
+        coded[list.len()] = MARK;
     }
 
-    fn code_in(&self, n: usize, _work: &mut [u8], res: &mut [u8]) -> usize {
-        res[n] = MARK;
-        n + 1
-    }
-
-    fn decode_in(&self, n: usize, _work: &mut [u8], res: &mut [u8]) -> Result<usize, ChainFault> {
-        let length = unmark(n, res)?;
-        Ok(length)
+    fn regain(&self, received: &[u8], list: &mut [u8]) -> Option<usize> {
+        let (bits, mark) = received.split_at(list.len());
+        if let Some(place) = first_above(bits, TAKES) {
+            return Some(place);
+        }
+        if mark[0] != MARK {
+            return Some(bits.len());
+        }
+        list.copy_from_slice(bits);
+        None
     }
 }

@@ -5,15 +5,12 @@
 pub mod script;
 
 use clearline::deliver;
-use frame::{Header, size};
+use frame::{HEADER_ROWS, Header, size};
 use receiving::{FeedRefusal, Part, Receiver, ReceiverFault, Reply, replay};
-use rows::SILENCE;
+use rows::{CARRIERS, LAST_HEADER_ROW, SILENCE};
 use script::reception;
 use sending::{begin, finish};
 use std::io;
-
-/// The carriers of a row.
-const CARRIERS: usize = 36;
 
 /// The rows of the frame.
 const ROWS: usize = 33;
@@ -39,10 +36,12 @@ fn show_row(rt: &impl Print, number: usize, row: &[u8]) -> io::Result<()> {
 
 /// Shows the first and the last header row and the first two payload rows.
 fn show_rows(rt: &impl Print, cells: &[u8; CELLS]) -> io::Result<()> {
-    show_row(rt, 0, &cells[0..CARRIERS])?;
-    show_row(rt, 12, &cells[12 * CARRIERS..13 * CARRIERS])?;
-    show_row(rt, 13, &cells[13 * CARRIERS..14 * CARRIERS])?;
-    show_row(rt, 14, &cells[14 * CARRIERS..15 * CARRIERS])
+    for (number, row) in cells.chunks_exact(CARRIERS).enumerate() {
+        if number == 0 || (LAST_HEADER_ROW..HEADER_ROWS + 2).contains(&number) {
+            show_row(rt, number, row)?;
+        }
+    }
+    Ok(())
 }
 
 /// Says which stage found a fault, where, and in which part of the frame.
@@ -92,16 +91,16 @@ fn show_payload(rt: &impl Print, receiver: &mut Receiver) -> io::Result<()> {
 }
 
 /// Feeds the rows to a new receiver one by one, and shows what it says.
-fn receive(rt: &impl Print, reference: &[u8; 36], cells: &[u8; CELLS]) -> io::Result<()> {
+fn receive(rt: &impl Print, reference: &[u8; CARRIERS], cells: &[u8; CELLS]) -> io::Result<()> {
     let mut receiver = Receiver::new();
     if receiver.start(reference).is_err() {
         return println!(rt; "  this is no reference");
     }
-    for row in 0..ROWS {
-        match receiver.feed(&cells[CARRIERS * row..CARRIERS * row + CARRIERS]) {
+    for (row, phases) in cells.chunks_exact(CARRIERS).enumerate() {
+        match receiver.feed(phases) {
             Ok(0) => println!(rt; "  row {row}: the frame is whole")?,
             Ok(missing) => {
-                if row == 12 {
+                if row == LAST_HEADER_ROW {
                     println!(rt; "  row {row}: the header is there, {missing} rows are missing")?;
                 }
             }
@@ -112,7 +111,11 @@ fn receive(rt: &impl Print, reference: &[u8; 36], cells: &[u8; CELLS]) -> io::Re
 }
 
 /// Plays the reception as a script of calls, and says what the two takes at its end were answered.
-fn show_script(rt: &HostRuntime, reference: &[u8; 36], cells: &[u8; CELLS]) -> io::Result<()> {
+fn show_script(
+    rt: &HostRuntime,
+    reference: &[u8; CARRIERS],
+    cells: &[u8; CELLS],
+) -> io::Result<()> {
     let heap = rt.alloc();
     let script = reception(heap, reference, cells)?;
     let replies = replay(heap, script.as_slice())?;
@@ -141,7 +144,7 @@ fn main(rt: HostRuntime) -> io::Result<()> {
         dt: 1,
     };
     let reading = b"meter 47: 001234 kWh";
-    let reference = [0u8; 36];
+    let reference = [0u8; CARRIERS];
     let mut cells = [0u8; CELLS];
     println!(rt; "header: PDC 17, MOD 1 (DBPSK), FL 5, TM 59 (sub-band 2 is silent), DT 1")?;
     if let Ok((length, rows)) = size(header) {

@@ -1,8 +1,11 @@
 -- Numbers and the bits that write them, and parts of lists of bits.
-use Rattle.std.proofs.Common.{◌≡◌, ℕ, zero, suc, ◌+◌, ◌*◌, ◌/◌, ◌%◌, ◌^◌, ◌<◌, ◌≤◌, true, leb, ◌⊎◌, List, [], ◌∷◌, ◌++◌, length, get_or, take, drop, sym, refl, ap, ◌∙◌, inl, inr, add-one, arith}
+use Rattle.std.proofs.Common.{◌≡◌, ℕ, zero, suc, ◌+◌, ◌-◌, ◌*◌, ◌/◌, ◌%◌, ◌^◌, ◌<◌, ◌≤◌, true, leb, ◌⊎◌, List, [], ◌∷◌, ◌++◌, length, get_or, take, drop, sym, refl, ap, ◌∙◌, subst, inl, inr, add-one, arith}
 use Rattle.std.proofs.lemmas.Nat.{mod_below, pow-add, pow_below, shr-shr}
 use Rattle.std.proofs.lemmas.List.{at_drop_more, at_drop_all, length-take-le, length-drop, take-append-drop, drop-drop}
 use Rattle.std.proofs.lemmas.Bool.{and_parts, and_from, cases_lt, leb-true, le-leb}
+use denote.Param.Members.{Mut}
+use Rattle.std.specs.Fn.{Called}
+use Rattle.std.specs.Array.{IsFromFnResultFrom}
 use Rattle.stage.specs.Plain.{within}
 use Rattle.packing.specs.Bits.{bits_of, value_behind, value, part}
 
@@ -14,6 +17,27 @@ bits_are_bits (suc width) number =
     (within 1 (bits_of width number))
     (le-leb (number / 2 ^ width % 2) 1 (omega (arith, mod_below (number / 2 ^ width) 2 (omega arith))))
     (bits_are_bits width number)
+
+-- a list of bits is known by its places
+pub bits_by_places : (width number : ℕ) (xs : List ℕ) → length xs ≡ width → ((k : ℕ) → k < width → get_or xs k 0 ≡ number / 2 ^ (width - 1 - k) % 2) → xs ≡ bits_of width number
+bits_by_places zero number [] l each = refl
+bits_by_places zero number (x ∷ xs) l each = absurd (omega arith)
+bits_by_places (suc width) number [] l each = absurd (omega arith)
+bits_by_places (suc width) number (x ∷ xs) l each =
+    let first : suc width - 1 - 0 ≡ width = omega arith in
+    let here : x ≡ number / 2 ^ width % 2 = each 0 (omega arith) ∙ ap (λ k. number / 2 ^ k % 2) first in
+    let rest = bits_by_places width number xs (omega arith) (λ k s. each (suc k) (omega arith) ∙ ap (λ j. number / 2 ^ j % 2) (omega arith)) in cc
+
+-- what a closure that stays as it is tells of each place of the array that it made
+pub made_by_places : {F : Type 0} (g : Mut F (ℕ × Unit {0}) ℕ) (f : F) (made : ℕ → ℕ) → ((k y : ℕ) (q : F) → Called g f (k, tt) y q → (q ≡ f) × (y ≡ made k))
+    → (ys : List ℕ) (i n : ℕ) → IsFromFnResultFrom g f ys i n → (k : ℕ) → i ≤ k → k < i + n → get_or ys k 0 ≡ made k
+made_by_places g f made says ys i zero h k low high = absurd (omega arith)
+made_by_places g f made says ys i (suc n) h k low high =
+    let here = says i h.1 h.0 h.3 in
+    elim (cases_lt i k) [
+      | inl s ↦ made_by_places g f made says ys (i + 1) n (subst (λ q. IsFromFnResultFrom g q ys (i + 1) n) here.0 h.4) k (omega arith) (omega arith)
+      | inr s ↦ (let e : i ≡ k = omega arith in subst (λ j. get_or ys j 0 ≡ made j) e (h.2.1 0 ∙ here.1))
+    ]
 
 -- the bits behind a number are divided off again
 number_before : (number : ℕ) (bits : List ℕ) → within 1 bits ≡ true → value_behind number bits / 2 ^ length bits ≡ number

@@ -1,12 +1,13 @@
 -- A word's fault is that of its check, or else that of the zeros behind it.
-use Rattle.std.proofs.Common.{◌≡◌, ℕ, suc, ◌+◌, ◌<◌, Bool, true, false, cond, eqb, List, [], ◌∷◌, ◌++◌, length, get_or, take, drop, Some, None, Option, sym, refl, ap, ◌∙◌, arith}
+use Rattle.std.proofs.Common.{◌≡◌, ℕ, suc, ◌+◌, Bool, true, false, cond, eqb, List, [], ◌∷◌, ◌++◌, length, take, drop, Some, None, Option, sym, refl, ap, ◌∙◌, arith}
 use Rattle.std.specs.Option.{option_map}
-use Rattle.std.proofs.lemmas.List.{get_or-replicate, length-drop, length-take-le, take_all, take-append-drop}
+use Rattle.std.proofs.lemmas.List.{length-drop, length-take-le, take_all, take-append-drop}
 use Rattle.stage.specs.Faults.{fault_at}
 use Rattle.stage.specs.Model.{plain, coding, decoding}
 use Rattle.stage.specs.Plain.{first_difference, judged, settled}
-use Rattle.stage.proofs.Differences.{difference_found, no_difference_from_itself}
+use Rattle.stage.specs.Differences.{difference_found, no_difference_from_itself}
 use Rattle.stage.specs.Lists.{same_by_places}
+use Rattle.stage.specs.Searches.{FirstDifference}
 use Rattle.codings.specs.Checks.{checking}
 use Rattle.codings.specs.CheckLaws.{length_legal}
 use Rattle.packing.specs.Faults.{first_fault, parts_fault, zeros_fault}
@@ -71,16 +72,8 @@ word_fault_by_parts ys e =
     front : length (take 33 ys) ≡ 33
     front = length-take-le 33 ys (omega (arith, e))
 
--- the zeros, as a loop tests them
-zero_at : (k : ℕ) → k < 7 → get_or {A = ℕ} padding k 0 ≡ 0
-zero_at k l = get_or-replicate 7 k 0 0 l
-
-pub fault_at_first_one : (zeros : List ℕ) (i : ℕ) → length zeros ≡ 7 → i < 7 → ((k : ℕ) → k < i → get_or zeros k 0 ≡ 0) → (get_or zeros i 0 ≡ 0 → ⊥) → Some (fault_at 1 (33 + i)) ≡ zeros_fault zeros
-fault_at_first_one zeros i l h before here =
-    let found = difference_found padding zeros i (sym l) (omega arith) (λ j s. zero_at j (omega arith) ∙ sym (before j s)) (λ e. here (sym e ∙ zero_at i h)) in
-    sym (ap (option_map (λ k. fault_at 1 (33 + k))) found)
-
-pub no_fault_in_zeros : (zeros : List ℕ) → length zeros ≡ 7 → ((k : ℕ) → k < 7 → get_or zeros k 0 ≡ 0) → None ≡ zeros_fault zeros
-no_fault_in_zeros zeros l all =
-    let same : padding ≡ zeros = same_by_places padding zeros (sym l) (λ k h. zero_at k h ∙ sym (all k h)) in
-    sym (ap (option_map (λ k. fault_at 1 (33 + k))) (ap (first_difference padding) (sym same) ∙ no_difference_from_itself padding))
+-- where two lists of one length first differ, as a search of their places says it
+pub difference_is : (xs ys : List ℕ) (found : Option ℕ) → length xs ≡ length ys → FirstDifference xs ys found → found ≡ first_difference xs ys
+difference_is xs ys None l same =
+    sym (ap (first_difference xs) (sym (same_by_places xs ys l same)) ∙ no_difference_from_itself xs)
+difference_is xs ys (Some k) l found = sym (difference_found xs ys k l (omega (arith, found.0)) found.1 found.2)

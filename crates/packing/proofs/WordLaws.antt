@@ -8,9 +8,9 @@ use Rattle.stage.specs.Promise.{Promise}
 use Rattle.stage.specs.Sound.{Sound}
 use Rattle.stage.specs.Legality.{legal_from_parts, legal_length, legal_within}
 use Rattle.stage.specs.Lists.{same_by_places, some_is_there, value_of_some}
-use Rattle.stage.proofs.Plains.{plain_keeps}
+use Rattle.stage.specs.Plains.{plain_keeps}
 use Rattle.codings.specs.Checks.{checking, nearest_bit, only_length}
-use Rattle.codings.specs.AgreementLaws.{some_under_test}
+use Rattle.stage.specs.AgreementLaws.{some_under_test}
 use Rattle.codings.specs.CheckLaws.{bits_are_nearest, checking_sound, length_legal}
 use Rattle.codings.specs.NearestBitLaws.{within_append}
 use Rattle.frame.specs.declared.headers.Header.{Header}

@@ -1,13 +1,10 @@
 //! Packing a header to five bytes, and unpacking.
-ghost use Rattle.std.specs.Prelude.{◌≡◌, ◌≤◌, true, ◌++◌, length, drop};
-ghost use Rattle.stage.specs.Plain.{within};
+ghost use Rattle.std.specs.Prelude.{◌≡◌, length};
 ghost use Rattle.frame.specs.Answers.{refusal};
-ghost use Rattle.packing.specs.Bits.{part, value};
-ghost use Rattle.packing.specs.Packings.{Packed, bytes_of, pack_answer, packed, packed_length, unpack_answer, unpack_unless};
+ghost use Rattle.packing.specs.Packings.{Packed, pack_answer, packed, unpack_answer, unpack_unless};
 
-use crate::bits::value_of;
 use crate::refusals::{PackRefusal, UnpackRefusal};
-use crate::words::{WORD_BITS, word_fault, word_of_header};
+use crate::words::{Word, word_fault};
 use frame::{Header, size};
 
 /// A packed header has this many bytes.
@@ -28,42 +25,11 @@ const DT_WEIGHT: u32 = 16;
 /// How many numbers DT's three bits hold.
 const DT_NUMBERS: u32 = 8;
 
-/// The byte that the eight bits of a word from `at` on write.
-fn byte_at(word: &[u8; WORD_BITS], at: usize) -> u8
-    requires inside { at ≤ 32 }
-    requires bits { within 1 word.now ≡ true }
-    ensures { result ≡ value (part at 8 word.now) }
-{
-    value_of(&word[at..at + 8]) as u8
-}
-
-/// The five bytes of a word.
-fn bytes_of(word: &[u8; WORD_BITS]) -> [u8; PACKED_BYTES]
-    requires { within 1 word.now ≡ true }
-    ensures { result ≡ bytes_of word.now }
-{
-    [
-        byte_at(word, 0),
-        byte_at(word, 8),
-        byte_at(word, 16),
-        byte_at(word, 24),
-        byte_at(word, 32),
-    ]
-}
-
 /// The five bytes that a header packs to.
 fn packed_bytes(header: Header) -> [u8; PACKED_BYTES]
     ensures { result ≡ packed header }
 {
-    bytes_of(&word_of_header(header))
-}
-
-/// Writes five bytes to the front of a buffer; the rest is as it was.
-fn put_front(bytes: [u8; PACKED_BYTES], out: &mut [u8])
-    requires { packed_length ≤ length out.old }
-    ensures { out.new ≡ bytes ++ drop packed_length out.old }
-{
-    out[0..PACKED_BYTES].copy_from_slice(&bytes);
+    Word::of_header(header).bytes()
 }
 
 /// Writes a header as five bytes to the front of `out` and answers how many these are: its 28 bits,
@@ -80,7 +46,7 @@ pub fn pack(header: Header, out: &mut [u8]) -> Result<usize, PackRefusal>
     if out.len() < PACKED_BYTES {
         return Err(PackRefusal::TooShort);
     }
-    put_front(packed_bytes(header), out);
+    out[0..PACKED_BYTES].copy_from_slice(&packed_bytes(header));
     Ok(PACKED_BYTES)
 }
 

@@ -8,9 +8,9 @@ use Rattle.stage.specs.Model.{plain, legal}
 use Rattle.stage.specs.Sound.{Sound}
 use Rattle.stage.specs.Lists.{value_of_some, within_at, within_from, same_by_places}
 use Rattle.stage.specs.Legality.{legal_within, legal_length}
+use Rattle.stage.specs.AgreementLaws.{some_under_test}
 use Rattle.phases.specs.Settings.{most_elements}
 use Rattle.phases.specs.Differences.{row_length, is_reference, cell, cells, earlier, turn_between, turns, whole_rows, difference}
-use Rattle.phases.specs.Lengths.{cond_is}
 use Rattle.phases.specs.Phases.{turn_small, turn_leads, turn_back}
 use Rattle.phases.specs.Recurrences.{earlier_first, earlier_later, same_earlier, recurrence}
 
@@ -26,9 +26,9 @@ some_row reference h =
 reference_phases : (reference : List ℕ) → is_reference reference ≡ true → within 7 reference ≡ true
 reference_phases reference h = (and_parts (row_length (length reference)) (within 7 reference) h).1
 
-whole_rows_is : (m n k : ℕ) → whole_rows m n ≡ Some k → (n ≤ most_elements) × (n ≡ k)
+pub whole_rows_is : (m n k : ℕ) → whole_rows m n ≡ Some k → (n ≤ most_elements) × (n ≡ k)
 whole_rows_is m n k h =
-    let t = cond_is (nat_le n most_elements && n % m == 0) n k h in
+    let t = some_under_test (nat_le n most_elements && n % m == 0) n k h in
     let u = and_parts (nat_le n most_elements) (n % m == 0) t.0 in (leb-true n most_elements u.0, t.1)
 
 same_back : (m n k : ℕ) → whole_rows m n ≡ Some k → whole_rows m k ≡ Some n

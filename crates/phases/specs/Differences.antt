@@ -70,18 +70,7 @@ difference reference =
 abbrev pub made_difference : List ℕ → Result Model Refusal
 made_difference reference = cond (is_reference reference) (Ok (plain (difference reference))) (Err Setting)
 
--- Of n places the first `count` are added up; behind them stands what stood there before.
-pub record Adding (reference : List ℕ) (xs : List ℕ) (buffer : List ℕ) (count : ℕ) : Type 0 where
-  pub added : (k : ℕ) → k < count → slice_index buffer k ≡ cell reference xs k
-  pub rest : (k : ℕ) → count ≤ k → k < length xs → slice_index buffer k ≡ slice_index xs k
-
--- The first `count` elements of `ys` are cells and `buffer` holds the increments between them.
-pub record Turning (reference : List ℕ) (ys : List ℕ) (buffer : List ℕ) (count : ℕ) : Type 0 where
+-- The first `count` elements of `ys` are cells and `list` holds the increments between them.
+pub record Turning (reference : List ℕ) (ys : List ℕ) (list : List ℕ) (count : ℕ) : Type 0 where
   pub phases : (k : ℕ) → k < count → slice_index ys k ≤ 7
-  pub turned : (k : ℕ) → k < count → slice_index buffer k ≡ turn_between (slice_index ys k) (earlier reference ys k)
-
--- Of n places `count` are turned; the next of them, if there is one, holds no cell.
-pub record Turned (reference : List ℕ) (n : ℕ) (ys : List ℕ) (buffer : List ℕ) (count : ℕ) : Type 0 where
-  pub few : count ≤ n
-  pub done : Turning reference ys buffer count
-  pub stop : count < n → 7 < slice_index ys count
+  pub turned : (k : ℕ) → k < count → slice_index list k ≡ turn_between (slice_index ys k) (earlier reference ys k)

@@ -4,7 +4,6 @@ pub mod Maps
 pub mod Differences
 pub mod Meanings
 pub mod DifferenceLaws
-pub mod Lengths
 pub mod Phases
 pub mod Recurrences
 pub mod MapLaws

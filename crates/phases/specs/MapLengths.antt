@@ -3,9 +3,9 @@ use Rattle.std.specs.Prelude.{◌≡◌, ℕ, ◌+◌, ◌*◌, ◌/◌, ◌%◌
 use Rattle.std.proofs.Common.{ap, ◌∙◌, arith}
 use Rattle.std.proofs.lemmas.Nat.{div-add-mod', div_below, mul-le}
 use Rattle.std.proofs.lemmas.Bool.{and_parts, and_from, leb-true, le-leb, eqb-true, eq-eqb, cond-true}
+use Rattle.stage.specs.AgreementLaws.{some_under_test}
 use Rattle.phases.specs.Settings.{most_elements}
 use Rattle.phases.specs.Maps.{is_width, mapped_length, unmapped_length}
-use Rattle.phases.specs.Lengths.{cond_is}
 use Rattle.phases.specs.Widths.{each_width}
 
 -- n bits are k whole increments, and not too many
@@ -16,7 +16,7 @@ pub record Whole (b : ℕ) (n : ℕ) (k : ℕ) : Type 0 where
 
 pub mapped_is : (b n k : ℕ) → mapped_length b n ≡ Some k → Whole b n k
 mapped_is b n k h =
-    let t = cond_is (nat_le n most_elements && n % b == 0) (n / b) k h in
+    let t = some_under_test (nat_le n most_elements && n % b == 0) (n / b) k h in
     let u = and_parts (nat_le n most_elements) (n % b == 0) t.0 in
     record { few = leb-true n most_elements u.0; rest = eqb-true (n % b) 0 u.1; count = t.1 }
 
@@ -27,7 +27,7 @@ mapped_from b n k w =
 
 pub unmapped_is : (b n k : ℕ) → unmapped_length b k ≡ Some n → (k ≤ most_elements / b) × (k * b ≡ n)
 unmapped_is b n k h =
-    let t = cond_is (nat_le k (most_elements / b)) (k * b) n h in (leb-true k (most_elements / b) t.0, t.1)
+    let t = some_under_test (nat_le k (most_elements / b)) (k * b) n h in (leb-true k (most_elements / b) t.0, t.1)
 
 unmapped_from : (b n k : ℕ) → k ≤ most_elements / b → k * b ≡ n → unmapped_length b k ≡ Some n
 unmapped_from b n k l e =
@@ -71,7 +71,3 @@ bit_inside b n i p e l = div_below i b (n / b) p (omega (arith, whole_bits b n e
 -- the bits of increment i lie inside
 pub bits_inside : (b i k : ℕ) → i < k → i * b + b ≤ k * b
 bits_inside b i k l = omega (arith, mul-le (i + 1) b k b (omega arith) (omega arith))
-
--- and not before place i
-pub bits_behind : (b i : ℕ) → 0 < b → i ≤ i * b
-bits_behind b i p = omega (arith, mul-le i 1 i b (omega arith) (omega arith))

@@ -1,6 +1,6 @@
 -- From bits to phase increments, by the three phase tables. An increment is a phase in eighths of
 -- a turn.
-use Rattle.std.specs.Prelude.{◌≡◌, ℕ, zero, suc, ◌+◌, ◌-◌, ◌*◌, ◌/◌, ◌%◌, ◌^◌, ◌<◌, ◌≤◌, Bool, true, cond, ◌&&◌, List, [], ◌∷◌, map, length, Some, None, Ok, Err, Option, Result, ◌==◌, ◌≢◌, bit_xor, count_ones, nat_le, slice_index}
+use Rattle.std.specs.Prelude.{◌≡◌, ℕ, zero, suc, ◌+◌, ◌-◌, ◌*◌, ◌/◌, ◌%◌, ◌^◌, ◌<◌, ◌≤◌, Bool, true, cond, ◌&&◌, List, [], ◌∷◌, map, length, Some, None, Ok, Err, Option, Result, ◌==◌, bit_xor, count_ones, nat_le, slice_index}
 use Rattle.std.specs.List.{range_with_len}
 use Rattle.stage.specs.declared.faults.Refusal.{Refusal}
 use Rattle.stage.specs.declared.faults.Refusal.TheVariants.{Setting}
@@ -103,23 +103,11 @@ made_map b = cond (is_width b) (Ok (plain (mapping b))) (Err Setting)
 abbrev pub BitsAt : List ℕ → ℕ → ℕ → Type 0
 BitsAt xs place c = (j : ℕ) → j < c → slice_index xs (place + j) ≤ 1
 
--- Of the bits `xs` the first `count` increments are made; behind them stands what stood there.
-pub record Mapping (b : ℕ) (xs : List ℕ) (buffer : List ℕ) (count : ℕ) : Type 0 where
-  pub mapped : (k : ℕ) → k < count → slice_index buffer k ≡ increment_of b (written xs (k * b) b)
-  pub rest : (k : ℕ) → count ≤ k → k < length xs → slice_index buffer k ≡ slice_index xs k
+-- A list is the b bits that write w.
+abbrev pub Written : ℕ → ℕ → List ℕ → Type 0
+Written b w group = (j : ℕ) → j < b → slice_index group j ≡ bit_of b w j
 
--- The first c of the b bits that write w stand in a buffer from a place on; before it nothing changed.
-pub record Writing (b : ℕ) (w : ℕ) (place : ℕ) (before : List ℕ) (after : List ℕ) (c : ℕ) : Type 0 where
-  pub bits_there : (j : ℕ) → j < c → slice_index after (place + j) ≡ bit_of b w j
-  pub kept : (k : ℕ) → k < place → slice_index after k ≡ slice_index before k
-
--- The first `count` elements of `ys` are increments in use, and their bits stand in a buffer.
-pub record Unmapping (b : ℕ) (ys : List ℕ) (buffer : List ℕ) (count : ℕ) : Type 0 where
+-- The first `count` elements of `ys` are increments in use, and their bits stand in a list.
+pub record Unmapping (b : ℕ) (ys : List ℕ) (list : List ℕ) (count : ℕ) : Type 0 where
   pub in_table : (k : ℕ) → k < count → increment_of b (number_of b (slice_index ys k)) ≡ slice_index ys k
-  pub unmapped : (k : ℕ) → k < count * b → slice_index buffer k ≡ bit_of b (number_of b (slice_index ys (k / b))) (k % b)
-
--- Of n places `count` are taken back; the next of them, if there is one, is not in use.
-pub record Unmapped (b : ℕ) (n : ℕ) (ys : List ℕ) (buffer : List ℕ) (count : ℕ) : Type 0 where
-  pub few : count ≤ n
-  pub done : Unmapping b ys buffer count
-  pub stop : count < n → increment_of b (number_of b (slice_index ys count)) ≢ slice_index ys count
+  pub unmapped : (k : ℕ) → k < count * b → slice_index list k ≡ bit_of b (number_of b (slice_index ys (k / b))) (k % b)

@@ -42,11 +42,11 @@ written_below =
     (λ xs place h. omega (arith, h 0 (omega arith), h 1 (omega arith), h 2 (omega arith)))
 
 -- the number depends on the bits that write it alone
-pub same_written : (xs ys : List ℕ) (place c : ℕ) → ((j : ℕ) → j < c → slice_index xs (place + j) ≡ slice_index ys (place + j))
-    → written xs place c ≡ written ys place c
-same_written xs ys place zero h = refl
-same_written xs ys place (suc c) h =
-    let before = same_written xs ys place c (λ j l. h j (omega arith)) in
+pub same_written : (xs ys : List ℕ) (place there c : ℕ) → ((j : ℕ) → j < c → slice_index xs (place + j) ≡ slice_index ys (there + j))
+    → written xs place c ≡ written ys there c
+same_written xs ys place there zero h = refl
+same_written xs ys place there (suc c) h =
+    let before = same_written xs ys place there c (λ j l. h j (omega arith)) in
     let here = h c (omega arith) in omega arith
 
 bit_written_1 : (xs : List ℕ) (place : ℕ) → BitsAt xs place 1 → (j : ℕ) → j < 1 → bit_of 1 (written xs place 1) j ≡ slice_index xs (place + j)

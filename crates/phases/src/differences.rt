@@ -1,16 +1,13 @@
 //! The stage that adds each phase increment to the cell put out a row earlier.
 
-ghost use Rattle.std.specs.Prelude.{◌≡◌, ◌+◌, ◌%◌, ◌<◌, ◌≤◌, true, length, take, Some, None};
-ghost use Rattle.stage.specs.Model.{plain, decode_room};
-ghost use Rattle.stage.specs.Calls.{Holds};
-ghost use Rattle.phases.specs.Settings.{Restored};
-ghost use Rattle.phases.specs.Differences.{row_length, is_reference, made_difference, cells, earlier, turn_between, whole_rows, difference, Recurrence, Turned};
+ghost use Rattle.std.specs.Prelude.{◌≡◌, ◌+◌, ◌%◌, ◌<◌, true, length, take, Some, None, nat_le};
 ghost use Rattle.std.specs.Result.{result_map_both};
-ghost use Rattle.stage.proofs.Plains.{plain_keeps};
+ghost use Rattle.stage.specs.Model.{plain};
+ghost use Rattle.phases.specs.Differences.{row_length, is_reference, made_difference, earlier, turn_between, whole_rows, difference, Recurrence};
 ghost use Rattle.phases.specs.DifferenceLaws.{difference_sound};
 
-use stage::buffers::{all_within, copy_front};
-use stage::{ChainFault, Outline, Refusal, Span, Stage, StageFault};
+use stage::buffers::all_within;
+use stage::{PlainStage, Refusal};
 
 /// The number under which the stage's faults are known.
 const NUMBER: u8 = 10;
@@ -31,6 +28,7 @@ const LONGEST: usize = 9_072;
 /// first row to a reference; it takes up to 9,072 increments in whole rows.
 #[derive(Clone, Copy)]
 pub struct Difference {
+    // A count beside it: a stage has no heap, so a row stands in memory for the longest.
     row: [u8; 36],
     count: usize,
     ghost long: { row_length count ≡ true },
@@ -56,13 +54,20 @@ fn is_row(reference: &[u8]) -> bool
     is_row_length(reference.len()) && all_within(reference, HIGHEST)
 }
 
+/// Whether a received element is a cell.
+fn is_cell(element: u8) -> bool
+    ensures { result ≡ nat_le element 7 }
+{
+    element <= HIGHEST
+}
+
 /// A row as long as the longest, with `reference` in front.
 fn padded(reference: &[u8]) -> [u8; 36]
     requires { is_reference reference.now ≡ true }
     ensures { take (length reference.now) result ≡ reference.now }
 {
     let mut row = [0u8; 36];
-    copy_front(reference.len(), reference, &mut row);
+    row[..reference.len()].copy_from_slice(reference);
     row
 }
 
@@ -71,11 +76,7 @@ fn rows_of(count: usize, length: usize) -> Option<usize>
     requires { 0 < count }
     ensures { result ≡ whole_rows count length }
 {
-    if length <= LONGEST && length % count == 0 {
-        Some(length)
-    } else {
-        None
-    }
+    (length <= LONGEST && length % count == 0).then_some(length)
 }
 
 /// Two phases added.
@@ -105,64 +106,6 @@ fn cell_before(i: usize, reference: &[u8], cells: &[u8]) -> u8
     }
 }
 
-/// Adds up the `n` increments in front of `buffer`; answers how many.
-fn add_rows(n: usize, reference: &[u8], buffer: &mut [u8]) -> usize
-    requires row { is_reference reference.now ≡ true }
-    requires front { n ≤ length buffer.old }
-    ensures { Holds buffer.new result (cells reference.now (take n buffer.old)) }
-{
-    for i in 0..n {
-        buffer[i] = sum(buffer[i], cell_before(i, reference, buffer));
-    }
-    n
-}
-
-/// Puts the increments between the `n` cells in front of `received` into `buffer`, up to the
-/// first that is no cell; answers how many.
-fn turns_between(n: usize, reference: &[u8], received: &[u8], buffer: &mut [u8]) -> usize
-    requires from { n ≤ length received.now }
-    requires to { n ≤ length buffer.old }
-    ensures { Turned reference.now n received.now buffer.new result }
-{
-    for i in 0..n {
-        if received[i] > HIGHEST {
-            return i;
-        }
-        buffer[i] = turn(received[i], cell_before(i, reference, received));
-    }
-    n
-}
-
-/// Puts the increments that lead to the `n` cells in front of `buffer` in their place, or
-/// answers where they are no coding.
-fn restore(
-    n: usize,
-    reference: &[u8],
-    work: &mut [u8],
-    buffer: &mut [u8],
-) -> Result<usize, StageFault>
-    requires row { is_reference reference.now ≡ true }
-    requires front { n ≤ length buffer.old }
-    requires room { decode_room (plain (difference reference.now)) n ≤ length work.old }
-    ensures { Restored (difference reference.now) (take n buffer.old) result buffer.new }
-{
-    if rows_of(reference.len(), n).is_none() {
-        return Err(StageFault {
-            number: NUMBER,
-            place: 0,
-        });
-    }
-    copy_front(n, buffer, work);
-    let place = turns_between(n, reference, work, buffer);
-    if place < n {
-        return Err(StageFault {
-            number: NUMBER,
-            place,
-        });
-    }
-    Ok(n)
-}
-
 impl Difference {
     /// The stage over a reference of 6 to 36 cells, in steps of 6.
     ///
@@ -187,34 +130,46 @@ impl Difference {
     }
 }
 
-impl Stage for Difference {
-    ghost model = { λ s. plain (difference (take s.count s.row)) };
+impl PlainStage for Difference {
+    ghost meaning = { λ s. difference (take s.count s.row) };
 
-    ghost keeps = { λ s h. plain_keeps (difference (take s.count s.row)) (difference_sound (take s.count s.row) s.legal) };
+    fn number(&self) -> u8 {
+        NUMBER
+    }
 
-    fn outline(&self) -> Outline {
-        Outline {
-            takes: HIGHEST,
-            puts: HIGHEST,
-            members: 1,
-            fit: true,
+    fn takes(&self) -> u8 {
+        HIGHEST
+    }
+
+    fn puts(&self) -> u8 {
+        HIGHEST
+    }
+
+    fn coded_length(&self, length: usize) -> Option<usize> {
+        rows_of(self.count, length)
+    }
+
+    fn message_length(&self, length: usize) -> Option<usize> {
+        rows_of(self.count, length)
+    }
+
+    fn write_coding(&self, list: &[u8], coded: &mut [u8]) {
+        let reference = self.reference();
+        for (i, increment) in list.iter().enumerate() {
+            coded[i] = sum(*increment, cell_before(i, reference, coded));
         }
     }
 
-    fn coded_span(&self, length: usize) -> Span {
-        Span::of(length, rows_of(self.count, length))
+    fn regain(&self, received: &[u8], list: &mut [u8]) -> Option<usize> {
+        let reference = self.reference();
+        for (i, cell) in received.iter().enumerate() {
+            if !is_cell(*cell) {
+                return Some(i);
+            }
+            list[i] = turn(*cell, cell_before(i, reference, received));
+        }
+        None
     }
 
-    fn decoded_span(&self, length: usize) -> Span {
-        Span::of(length, rows_of(self.count, length))
-    }
-
-    fn code_in(&self, n: usize, _work: &mut [u8], res: &mut [u8]) -> usize {
-        add_rows(n, self.reference(), res)
-    }
-
-    fn decode_in(&self, n: usize, work: &mut [u8], res: &mut [u8]) -> Result<usize, ChainFault> {
-        let length = restore(n, self.reference(), work, res)?;
-        Ok(length)
-    }
+    ghost sound = { λ s. difference_sound (take s.count s.row) s.legal };
 }

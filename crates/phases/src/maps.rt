@@ -1,16 +1,13 @@
 //! The stage that maps bits to phase increments.
 
-ghost use Rattle.std.specs.Prelude.{◌≡◌, ◌+◌, ◌*◌, ◌^◌, ◌<◌, ◌≤◌, true, length, take, Some, None};
-ghost use Rattle.stage.specs.Model.{plain, legal, decode_room};
-ghost use Rattle.stage.specs.Calls.{Holds};
-ghost use Rattle.phases.specs.Settings.{Restored};
-ghost use Rattle.phases.specs.Maps.{is_width, made_map, increment_of, number_of, GrayMaps, written, increments, mapped_length, unmapped_length, mapping, BitsAt, Writing, Unmapped};
+ghost use Rattle.std.specs.Prelude.{◌≡◌, ◌*◌, ◌^◌, ◌<◌, true, length, Some, None, slice_index};
 ghost use Rattle.std.specs.Result.{result_map_both};
-ghost use Rattle.stage.proofs.Plains.{plain_keeps};
+ghost use Rattle.stage.specs.Model.{plain};
+ghost use Rattle.stage.specs.Plain.{within};
+ghost use Rattle.phases.specs.Maps.{is_width, made_map, phase_table, number_table, GrayMaps, written, mapping, Written};
 ghost use Rattle.phases.specs.MapLaws.{mapping_sound};
 
-use stage::buffers::copy_front;
-use stage::{ChainFault, Outline, Refusal, Span, Stage, StageFault};
+use stage::{PlainStage, Refusal};
 
 /// The number under which the stage's faults are known.
 const NUMBER: u8 = 9;
@@ -24,6 +21,7 @@ const WIDEST: usize = 3;
 /// The longest list of bits.
 const LONGEST: usize = 9_072;
 
+// Tables both ways, and no map: they are constants, and an increment is found by its place.
 /// The increment for each number that one bit writes.
 const TWO_PHASES: [u8; 2] = [0, 4];
 
@@ -46,6 +44,7 @@ const EIGHT_NUMBERS: [u8; 8] = [0, 1, 3, 2, 6, 7, 5, 4];
 /// table; it takes up to 9,072 bits, as many as whole increments have.
 #[derive(Clone, Copy)]
 pub struct Map {
+    // A number and no enum: lengths are divided by it.
     bits: usize,
     ghost width: { is_width bits ≡ true },
 }
@@ -56,139 +55,11 @@ pub fn neighbours_differ_in_one_bit()
     ensures { GrayMaps }
 {}
 
-/// The increment for a number that `bits` bits write.
-fn increment_for(bits: usize, number: u8) -> u8
-    requires width { is_width bits ≡ true }
-    requires short { number < 2 ^ bits }
-    ensures { result ≡ increment_of bits number }
+/// The number that an increment stands for by a table of numbers, 0 where it is not in the table.
+fn number_for(numbers: &[u8], increment: u8) -> u8
+    ensures { result ≡ slice_index numbers.now increment }
 {
-    match bits {
-        1 => TWO_PHASES[number as usize],
-        2 => FOUR_PHASES[number as usize],
-        _ => EIGHT_PHASES[number as usize],
-    }
-}
-
-/// The number that an increment stands for, 0 where it is not in use.
-fn number_for(bits: usize, increment: u8) -> u8
-    ensures { result ≡ number_of bits increment }
-{
-    if increment > HIGHEST {
-        return 0;
-    }
-    match bits {
-        1 => TWO_NUMBERS[increment as usize],
-        2 => FOUR_NUMBERS[increment as usize],
-        _ => EIGHT_NUMBERS[increment as usize],
-    }
-}
-
-/// How many increments a list of `length` bits is mapped to.
-fn length_mapped(bits: usize, length: usize) -> Option<usize>
-    requires { is_width bits ≡ true }
-    ensures { result ≡ mapped_length bits length }
-{
-    if length <= LONGEST && length % bits == 0 {
-        Some(length / bits)
-    } else {
-        None
-    }
-}
-
-/// How many bits are mapped to `length` increments.
-fn length_unmapped(bits: usize, length: usize) -> Option<usize>
-    requires { is_width bits ≡ true }
-    ensures { result ≡ unmapped_length bits length }
-{
-    if length <= LONGEST / bits {
-        Some(length * bits)
-    } else {
-        None
-    }
-}
-
-/// The number that `bits` bits of `buffer` from `place` on write, the first of them highest.
-fn number_at(bits: usize, place: usize, buffer: &[u8]) -> u8
-    requires width { is_width bits ≡ true }
-    requires inside { place + bits ≤ length buffer.now }
-    requires digits { BitsAt buffer.now place bits }
-    ensures value { result ≡ written buffer.now place bits }
-    ensures short { result < 2 ^ bits }
-{
-    let mut number = 0;
-    for j in 0..bits {
-        number = 2 * number + buffer[place + j];
-    }
-    number
-}
-
-/// Maps the `n` bits in front of `buffer`; answers how many increments they make.
-fn map_front(bits: usize, n: usize, buffer: &mut [u8]) -> usize
-    requires width { is_width bits ≡ true }
-    requires list { legal (plain (mapping bits)) (take n buffer.old) ≡ true }
-    requires front { n ≤ length buffer.old }
-    ensures { Holds buffer.new result (increments bits (take n buffer.old)) }
-{
-    let count = n / bits;
-    for i in 0..count {
-        buffer[i] = increment_for(bits, number_at(bits, i * bits, buffer));
-    }
-    count
-}
-
-/// Puts the `bits` bits that write `number` into `buffer` from `place` on.
-fn write_bits(bits: usize, number: u8, place: usize, buffer: &mut [u8])
-    requires width { is_width bits ≡ true }
-    requires inside { place + bits ≤ length buffer.old }
-    ensures { Writing bits number place buffer.old buffer.new bits }
-{
-    for j in 0..bits {
-        buffer[place + j] = (number >> (bits - 1 - j)) & 1;
-    }
-}
-
-/// Puts the bits that the `n` increments in front of `received` stand for into `buffer`, up to
-/// the first increment that is not in use; answers how many increments.
-fn unmap(bits: usize, n: usize, received: &[u8], buffer: &mut [u8]) -> usize
-    requires width { is_width bits ≡ true }
-    requires from { n ≤ length received.now }
-    requires to { n * bits ≤ length buffer.old }
-    ensures { Unmapped bits n received.now buffer.new result }
-{
-    for i in 0..n {
-        let number = number_for(bits, received[i]);
-        if increment_for(bits, number) != received[i] {
-            return i;
-        }
-        write_bits(bits, number, i * bits, buffer);
-    }
-    n
-}
-
-/// Puts the bits that are mapped to the `n` increments in front of `buffer` in their place, or
-/// answers where they are no coding.
-fn restore(bits: usize, n: usize, work: &mut [u8], buffer: &mut [u8]) -> Result<usize, StageFault>
-    requires width { is_width bits ≡ true }
-    requires front { n ≤ length buffer.old }
-    requires work_room { decode_room (plain (mapping bits)) n ≤ length work.old }
-    requires room { decode_room (plain (mapping bits)) n ≤ length buffer.old }
-    ensures { Restored (mapping bits) (take n buffer.old) result buffer.new }
-{
-    let Some(length) = length_unmapped(bits, n) else {
-        return Err(StageFault {
-            number: NUMBER,
-            place: 0,
-        });
-    };
-    copy_front(n, buffer, work);
-    let place = unmap(bits, n, work, buffer);
-    if place < n {
-        return Err(StageFault {
-            number: NUMBER,
-            place,
-        });
-    }
-    Ok(length)
+    numbers.get(increment as usize).copied().unwrap_or(0)
 }
 
 impl Map {
@@ -203,36 +74,94 @@ impl Map {
         }
         Ok(Map { bits })
     }
-}
 
-impl Stage for Map {
-    ghost model = { λ s. plain (mapping s.bits) };
-
-    ghost keeps = { λ s h. plain_keeps (mapping s.bits) (mapping_sound s.bits s.width) };
-
-    fn outline(&self) -> Outline {
-        Outline {
-            takes: 1,
-            puts: HIGHEST,
-            members: 1,
-            fit: true,
+    /// The increment for each number that the bits write, and the number for each increment.
+    fn tables(&self) -> (&'static [u8], &'static [u8])
+        ensures increments { result.0.now ≡ phase_table self.now.bits }
+        ensures numbers { result.1.now ≡ number_table self.now.bits }
+    {
+        match self.bits {
+            1 => (&TWO_PHASES, &TWO_NUMBERS),
+            2 => (&FOUR_PHASES, &FOUR_NUMBERS),
+            _ => (&EIGHT_PHASES, &EIGHT_NUMBERS),
         }
     }
 
-    fn coded_span(&self, length: usize) -> Span {
-        Span::of(length, length_mapped(self.bits, length))
+    /// The number that the bits of one increment write, the first of them highest.
+    fn number_written(&self, group: &[u8]) -> u8
+        requires long { length group.now ≡ self.now.bits }
+        requires digits { within 1 group.now ≡ true }
+        ensures value { result ≡ written group.now 0 self.now.bits }
+        ensures short { result < 2 ^ self.now.bits }
+    {
+        let mut number = 0;
+        for bit in group {
+            number = 2 * number + *bit;
+        }
+        number
     }
 
-    fn decoded_span(&self, length: usize) -> Span {
-        Span::of(length, length_unmapped(self.bits, length))
+    /// Writes the bits of one increment that write `number`.
+    fn write_bits(&self, number: u8, group: &mut [u8])
+        requires { length group.old ≡ self.now.bits }
+        ensures { Written self.now.bits number group.new }
+    {
+        for (place, bit) in group.iter_mut().enumerate() {
+            *bit = (number >> (self.bits - 1 - place)) & 1;
+        }
+    }
+}
+
+impl PlainStage for Map {
+    ghost meaning = { λ s. mapping s.bits };
+
+    fn number(&self) -> u8 {
+        NUMBER
     }
 
-    fn code_in(&self, n: usize, _work: &mut [u8], res: &mut [u8]) -> usize {
-        map_front(self.bits, n, res)
+    fn takes(&self) -> u8 {
+        1
     }
 
-    fn decode_in(&self, n: usize, work: &mut [u8], res: &mut [u8]) -> Result<usize, ChainFault> {
-        let length = restore(self.bits, n, work, res)?;
-        Ok(length)
+    fn puts(&self) -> u8 {
+        HIGHEST
     }
+
+    fn coded_length(&self, length: usize) -> Option<usize> {
+        if length <= LONGEST && length % self.bits == 0 {
+            Some(length / self.bits)
+        } else {
+            None
+        }
+    }
+
+    fn message_length(&self, length: usize) -> Option<usize> {
+        if length <= LONGEST / self.bits {
+            Some(length * self.bits)
+        } else {
+            None
+        }
+    }
+
+    fn write_coding(&self, list: &[u8], coded: &mut [u8]) {
+        let (increments, _) = self.tables();
+        for (i, group) in list.chunks_exact(self.bits).enumerate() {
+            coded[i] = increments[self.number_written(group) as usize];
+        }
+    }
+
+    fn regain(&self, received: &[u8], list: &mut [u8]) -> Option<usize> {
+        let (increments, numbers) = self.tables();
+        for (i, increment) in received.iter().enumerate() {
+            let number = number_for(numbers, *increment);
+            if increments[number as usize] != *increment {
+                return Some(i);
+            }
+            // By place: what is written through `chunks_exact_mut` is not known behind it.
+            self.write_bits(number, &mut list[i * self.bits..(i + 1) * self.bits]);
+        }
+        None
+    }
+
+    ghost sound = { λ s. mapping_sound s.bits s.width };
 }

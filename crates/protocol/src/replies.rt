@@ -1,49 +1,14 @@
 //! The answers to lines.
 ghost use Rattle.std.specs.Prelude.{◌≡◌, IfOk, vec_items};
-ghost use Rattle.frame.specs.Answers.{size_answer};
-ghost use Rattle.protocol.specs.Replies.{body_reply, call_reply, reply_of, size_reply, sized_text, without_end, without_last};
-ghost use Rattle.protocol.specs.Words.{unread};
+ghost use Rattle.protocol.specs.Replies.{body_reply, call_reply, reply_of};
+ghost use Rattle.wording.specs.Words.{unread};
 ghost use Rattle.std.specs.Option.{option_map};
 
-use crate::calls::{is_skipped, same_word};
-use crate::requests::Direction;
 use crate::stages::stage_reply;
-use crate::texts::append_labelled;
-use crate::words::Words;
-use frame::{Header, size};
 use std::alloc::{AllocError, Global};
+use wording::{Direction, Words, is_skipped, size_reply, without_end, word_text};
 
-/// The text of a header's size.
-fn size_text(heap: Global, header: Header) -> Result<Vec<u8>, AllocError>
-    ensures { IfOk result (λ t. t.items ≡ sized_text (size_answer header)) }
-{
-    let mut text = Vec::new(heap);
-    match size(header) {
-        Ok((payload, rows)) => {
-            append_labelled(heap, &mut text, "size ", payload)?;
-            append_labelled(heap, &mut text, " ", rows)?;
-        }
-        Err(refusal) => {
-            append_labelled(heap, &mut text, "refused ", refusal.number() as usize)?;
-        }
-    }
-    Ok(text)
-}
-
-/// Reads the rest of `size HEADER`, and gives the text of the answer; none if it cannot be read.
-fn size_reply(heap: Global, words: &mut Words<'_>) -> Result<Option<Vec<u8>>, AllocError>
-    ensures { IfOk result (λ o. option_map vec_items o ≡ size_reply (unread words.old)) }
-{
-    let Some(header) = words.header() else {
-        return Ok(None);
-    };
-    if words.next_word().is_some() {
-        return Ok(None);
-    }
-    let text = size_text(heap, header)?;
-    Ok(Some(text))
-}
-
+// Not shared with `desk`, whose calls keep something: what they share is in `wording`.
 /// Reads a call, and gives the text of the answer; none if it cannot be read.
 fn call_reply(heap: Global, words: &mut Words<'_>) -> Result<Option<Vec<u8>>, AllocError>
     ensures { IfOk result (λ o. option_map vec_items o ≡ call_reply (unread words.old)) }
@@ -51,36 +16,15 @@ fn call_reply(heap: Global, words: &mut Words<'_>) -> Result<Option<Vec<u8>>, Al
     let Some(name) = words.next_word() else {
         return Ok(None);
     };
-    if same_word(name, b"size") {
+    // Tried as a `match` on the names: the proof did not close.
+    if name == b"size".as_slice() {
         size_reply(heap, words)
-    } else if same_word(name, b"code") {
+    } else if name == b"code".as_slice() {
         stage_reply(heap, words, Direction::Code)
-    } else if same_word(name, b"decode") {
+    } else if name == b"decode".as_slice() {
         stage_reply(heap, words, Direction::Decode)
     } else {
         Ok(None)
-    }
-}
-
-/// A line without this byte at its end, if it ends with it.
-fn without_last(line: &[u8], byte: u8) -> &[u8]
-    ensures { result.now ≡ without_last byte line.now }
-{
-    match line {
-        [front @ .., last] if *last == byte => front,
-        _ => line,
-    }
-}
-
-/// A line without its end: a line feed, with or without a carriage return before it.
-fn without_end(line: &[u8]) -> &[u8]
-    ensures { result.now ≡ without_end line.now }
-{
-    let body = without_last(line, b'\n');
-    if body.len() < line.len() {
-        without_last(body, b'\r')
-    } else {
-        line
     }
 }
 
@@ -92,14 +36,11 @@ fn body_reply(heap: Global, body: &[u8]) -> Result<Option<Vec<u8>>, AllocError>
         return Ok(None);
     }
     let mut words = Words::new(body);
-    match call_reply(heap, &mut words)? {
-        Some(text) => Ok(Some(text)),
-        None => {
-            let mut text = Vec::new(heap);
-            text.extend_from_slice(b"unreadable")?;
-            Ok(Some(text))
-        }
-    }
+    let text = match call_reply(heap, &mut words)? {
+        Some(text) => text,
+        None => word_text(heap, b"unreadable")?,
+    };
+    Ok(Some(text))
 }
 
 /// The text of the answer to a line, given with its end; none if the line is empty or a remark.
@@ -108,6 +49,5 @@ fn body_reply(heap: Global, body: &[u8]) -> Result<Option<Vec<u8>>, AllocError>
 pub fn reply(heap: Global, line: &[u8]) -> Result<Option<Vec<u8>>, AllocError>
     ensures { IfOk result (λ o. option_map vec_items o ≡ reply_of line.now) }
 {
-    let text = body_reply(heap, without_end(line))?;
-    Ok(text)
+    body_reply(heap, without_end(line))
 }

@@ -31,7 +31,7 @@ decided_whole reference rows h bytes = of (ltb (length rows) header_rows) refl
     last : (g : Header) (p : Result (List ℕ) FeedRefusal) → payload_decision g (cells_of rows) ≡ p → header_rows ≤ length rows
         → header_by reference rows ≡ Ok g → row_count g.fl ≤ length rows
         → (loaded g p).0 ≡ whole h bytes → Decided reference rows h bytes
-    last g (Err e) p l d m w = let z : ◌≡◌ {A = ℕ} 0 1 = cc in absurd (omega arith)
+    last g (Err e) p l d m w = absurd (cc)
     last g (Ok others) p l d m w =
         let same : g ≡ h = cc in
         let bits : others ≡ bytes = cc in
@@ -44,19 +44,19 @@ decided_whole reference rows h bytes = of (ltb (length rows) header_rows) refl
 
     behind : (g : Header) (b : Bool) → ltb (length rows) (row_count g.fl) ≡ b → header_rows ≤ length rows → header_by reference rows ≡ Ok g
         → cond b (loading g (length rows) (cells_of rows)) (loaded g (payload_decision g (cells_of rows))).0 ≡ whole h bytes → Decided reference rows h bytes
-    behind g true m l d w = let z : ◌≡◌ {A = ℕ} 0 1 = cc in absurd (omega arith)
+    behind g true m l d w = absurd (cc)
     behind g false m l d w =
         last g (payload_decision g (cells_of rows)) refl l d (ltb-false (length rows) (row_count g.fl) m) w
 
     by : (d : Result Header FeedRefusal) → header_by reference rows ≡ d → header_rows ≤ length rows → holding_behind d rows ≡ whole h bytes
         → Decided reference rows h bytes
-    by (Err e) d l w = let z : ◌≡◌ {A = ℕ} 0 1 = cc in absurd (omega arith)
+    by (Err e) d l w = absurd (cc)
     by (Ok g) d l w = behind g (ltb (length rows) (row_count g.fl)) refl l d w
 
     of : (b : Bool) → ltb (length rows) header_rows ≡ b
         → cond b (heading reference (length rows) (cells_of rows)) (holding_behind (header_by reference rows) rows) ≡ whole h bytes
         → Decided reference rows h bytes
-    of true l w = let z : ◌≡◌ {A = ℕ} 0 1 = cc in absurd (omega arith)
+    of true l w = absurd (cc)
     of false l w = by (header_by reference rows) refl (ltb-false (length rows) header_rows l) w
 
 -- the last header row of a header's cells is a reference
@@ -117,6 +117,6 @@ complete_holds exact (Some reference) rows h bytes k f = frame_holds exact refer
 
 pub holds_complete : (exact : Exact) (o : Option (List ℕ)) (rows : List (List ℕ)) (h : Header) (bytes : List ℕ) → KeptUnder o rows
     → holding o rows ≡ whole h bytes → RowsUnder o h bytes rows
-holds_complete exact None rows h bytes k w = let z : ◌≡◌ {A = ℕ} 0 1 = cc in absurd (omega arith)
+holds_complete exact None rows h bytes k w = absurd (cc)
 holds_complete exact (Some reference) rows h bytes k w =
     decided_frame exact reference rows h bytes k (decided_whole reference rows h bytes w)

@@ -61,6 +61,3 @@ header_row_refers rows k cells h many few inv =
 -- The cells behind the header's rows.
 pub behind_front : (rows : ℕ) (cells : List ℕ) → take (36 * rows - 468) (drop 468 cells) ≡ drop 468 (cells_of_rows rows cells)
 behind_front rows cells = between_is cells 468 (36 * rows)
-
-pub behind_long : (rows : ℕ) (cells : List ℕ) → 36 * rows ≤ length cells → length (take (36 * rows - 468) (drop 468 cells)) ≡ 36 * (rows - 13)
-behind_long rows cells h = omega (arith, length-take (36 * rows - 468) (drop 468 cells), length-drop 468 cells)

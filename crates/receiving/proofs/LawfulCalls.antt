@@ -36,10 +36,10 @@ complete_long None h bytes rows c = absurd c
 complete_long (Some reference) h bytes rows c = c.frame.exactly
 
 not_refused : (frame : Header × List ℕ) (e : TakeRefusal) → ◌≡◌ {A = Result (Header × List ℕ) TakeRefusal} (Ok frame) (Err e) → ⊥
-not_refused frame e q = let z : ◌≡◌ {A = ℕ} 0 1 = cc in omega arith
+not_refused frame e q = cc
 
 refusals_differ : ◌≡◌ {A = Result (Header × List ℕ) TakeRefusal} (Err NoFrame) (Err TooShort) → ⊥
-refusals_differ q = let z : ◌≡◌ {A = ℕ} 0 1 = cc in omega arith
+refusals_differ q = cc
 
 -- A take that is refused for want of room is one of a whole frame.
 too_short_whole : (v : View) (room : ℕ) → (taken v room).1 ≡ Err TooShort → (h : Header) × ((bytes : List ℕ) × ((v ≡ whole h bytes) × (room < length bytes)))

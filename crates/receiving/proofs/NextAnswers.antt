@@ -17,7 +17,7 @@ use Rattle.receiving.proofs.Tellings.{tells_next}
 use Rattle.receiving.proofs.Views.{counts_accepts, listens_hears, taken_whole, unfit, unheard, whole_taken, whole_too_long}
 
 deaf_is_not_whole : (h : Header) (bytes : List ℕ) → deaf ≡ whole h bytes → ⊥
-deaf_is_not_whole h bytes e = let z : ◌≡◌ {A = ℕ} 0 1 = cc in omega arith
+deaf_is_not_whole h bytes e = cc
 
 -- a receiver with a whole frame handed none over
 whole_unhanded : (cs : List Call) (h : Header) (bytes : List ℕ) → run cs ≡ whole h bytes → was_handed cs ≡ false

@@ -20,11 +20,11 @@ use Rattle.receiving.proofs.RowLists.{cells_with_row, length_with_row, with_row}
 
 -- a header that is decided for is legal, so its frame has payload rows
 unless_legal : (o : Option Refusal) (g h : Header) → refusal g ≡ o → header_unless o g ≡ Ok h → Legal h
-unless_legal (Some e) g h r d = let z : ◌≡◌ {A = ℕ} 0 1 = cc in absurd (omega arith)
+unless_legal (Some e) g h r d = absurd (cc)
 unless_legal None g h r d = let p : g ≡ h = cc in subst (λ (x : Header). refusal x ≡ None) p r
 
 verdict_legal : (d : Result (List ℕ) ChainFault) (h : Header) → header_verdict d ≡ Ok h → Legal h
-verdict_legal (Err f) h e = let z : ◌≡◌ {A = ℕ} 0 1 = cc in absurd (omega arith)
+verdict_legal (Err f) h e = absurd (cc)
 verdict_legal (Ok bits) h e = unless_legal (refusal (header_from bits)) (header_from bits) h refl e
 
 pub decided_legal : (reference cells : List ℕ) (h : Header) → header_decision reference cells ≡ Ok h → Legal h

@@ -1,5 +1,5 @@
 -- The answers that the steps give to a script are lawful.
-use Rattle.std.proofs.Common.{◌≡◌, ℕ, ◌+◌, ◌<◌, ◌≤◌, List, [], ◌∷◌, ◌++◌, map, length, get_or, take, drop, Ok, Err, Result, sym, refl, ap, ◌∙◌, subst, append_assoc, append-nil, arith, take_at}
+use Rattle.std.proofs.Common.{◌≡◌, ℕ, ◌+◌, ◌<◌, ◌≤◌, List, [], ◌∷◌, ◌++◌, map, length, get_or, drop, Ok, Err, Result, sym, refl, ap, ◌∙◌, subst, append_assoc, append-nil}
 use Rattle.std.proofs.lemmas.List.{drop_all, drop_more}
 use Rattle.frame.specs.declared.headers.Header.{Header}
 use Rattle.receiving.specs.declared.refusals.TakeRefusal.{TakeRefusal}
@@ -9,7 +9,7 @@ use Rattle.receiving.specs.Laws.{Lawful}
 use Rattle.receiving.specs.declared.scripts.Step.{Step}
 use Rattle.receiving.specs.Playback.{answers_of, call_of}
 use Rattle.receiving.specs.Scripts.{LawfulAnswer, LawfulAnswers, TookMeans}
-use Rattle.receiving.specs.Steps.{View, fed, fresh, take_buffer, take_told, taken}
+use Rattle.receiving.specs.Steps.{View, fed, fresh, taken}
 use Rattle.receiving.proofs.DecisionLaws.{decisions_exact}
 use Rattle.receiving.proofs.HistoryLaw.{history_law}
 use Rattle.receiving.proofs.LawfulCalls.{feed_is_lawful, same_took, take_means}
@@ -30,16 +30,6 @@ answer_is_lawful cs (Take room) =
 pub answers_are_lawful : (cs calls : List Call) → LawfulAnswers cs calls (answers_of (run cs) calls)
 answers_are_lawful cs [] = tt
 answers_are_lawful cs (c ∷ calls) = (answer_is_lawful cs c, answers_are_lawful (c ∷ cs) calls)
-
--- A take's answer with the bytes that it left at the front of the buffer.
-pub took_with_bytes : (x : Result (Header × List ℕ) TakeRefusal) (h : Header) (n : ℕ) (before after items : List ℕ) → Ok (h, n) ≡ take_told x → after ≡ take_buffer x before → items ≡ take n after → Took (Ok (h, items)) ≡ Took x
-took_with_bytes (Ok (g, bytes)) h n before after items t b i =
-    let p : ◌≡◌ {A = Header × ℕ} (h, n) (g, length bytes) = cc in
-    let eh : h ≡ g = ap (λ (q : Header × ℕ). q.0) p in
-    let en : n ≡ length bytes = ap (λ (q : Header × ℕ). q.1) p in
-    let ei : items ≡ bytes = i ∙ ap (λ q. take q after) en ∙ ap (take (length bytes)) b ∙ take_at bytes (drop (length bytes) before) (length bytes) refl in
-    ap (λ q. Took (Ok (q, items))) eh ∙ ap (λ q. Took (Ok (g, q))) ei
-took_with_bytes (Err e) h n before after items t b i = let z : ◌≡◌ {A = ℕ} 0 1 = cc in let w : ⊥ = omega arith in absurd w
 
 -- One more step is played.
 pub played_more : (script : List Step) (i : ℕ) (d : Step) (done : List Answer) (v next : View) (given : Answer) → i < length script → given ≡ answer v (call_of (get_or script i d)) → next ≡ after v (call_of (get_or script i d))

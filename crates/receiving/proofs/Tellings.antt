@@ -44,7 +44,7 @@ faulty_payload h cells f e = ap payload_verdict e
 -- the header that was told is the one decided for
 pub told_header : (d : Result Header FeedRefusal) (h : Header) → header_told d ≡ Some h → d ≡ Ok h
 told_header (Ok g) h e = let p : g ≡ h = cc in ap Ok p
-told_header (Err f) h e = let z : ◌≡◌ {A = ℕ} 0 1 = cc in absurd (omega arith)
+told_header (Err f) h e = absurd (cc)
 
 -- answers within a part, and at its end
 missing_in_header : (reference : List ℕ) (n : ℕ) (cells : List ℕ) → n < header_rows → (with_header_row reference n cells).1 ≡ Ok (header_rows - n)

@@ -1,5 +1,5 @@
 -- What a view tells of the next call, and that it is what the reference and the rows tell.
-use Rattle.std.proofs.Common.{◌≡◌, ℕ, ◌<◌, ◌≤◌, Bool, true, false, cond, ◌&&◌, ltb, leb, ◌⊎◌, List, length, Some, None, Ok, Err, Option, Result, refl, ap, subst, inl, inr, arith}
+use Rattle.std.proofs.Common.{◌≡◌, ℕ, ◌<◌, ◌≤◌, Bool, true, false, cond, ◌&&◌, ltb, leb, ◌⊎◌, List, length, Some, None, Ok, Err, Option, Result, refl, ap, subst, inl, inr}
 use Rattle.std.proofs.lemmas.Bool.{cases_lt, false≢true, true≢false, le-leb, leb-true, lt-leb, lt-ltb, le-ltb}
 use Rattle.frame.specs.declared.headers.Header.{Header}
 use Rattle.frame.specs.Sizes.{row_count}
@@ -52,14 +52,14 @@ hands_whole (whole h bytes) room e = (h, (bytes, (refl, leb-true (length bytes) 
 
 -- and so is one whose take answers with a frame
 pub taken_whole : (v : View) (room : ℕ) (h : Header) (bytes : List ℕ) → (taken v room).1 ≡ Ok (h, bytes) → (v ≡ whole h bytes) × (length bytes ≤ room)
-taken_whole deaf room h bytes e = let z : ◌≡◌ {A = ℕ} 0 1 = cc in absurd (omega arith)
-taken_whole (heading reference n cells) room h bytes e = let z : ◌≡◌ {A = ℕ} 0 1 = cc in absurd (omega arith)
-taken_whole (loading g n cells) room h bytes e = let z : ◌≡◌ {A = ℕ} 0 1 = cc in absurd (omega arith)
+taken_whole deaf room h bytes e = absurd (cc)
+taken_whole (heading reference n cells) room h bytes e = absurd (cc)
+taken_whole (loading g n cells) room h bytes e = absurd (cc)
 taken_whole (whole g others) room h bytes e = of (cases_lt room (length others))
   where
     of : (room < length others) ⊎ (length others ≤ room) → (whole g others ≡ whole h bytes) × (length bytes ≤ room)
     of (inl l) =
-        let t = rw (lt-ltb room (length others) l) at e in let z : ◌≡◌ {A = ℕ} 0 1 = cc in absurd (omega arith)
+        let t = rw (lt-ltb room (length others) l) at e in absurd (cc)
     of (inr l) =
         let t : Ok (g, others) ≡ Ok (h, bytes) = rw (le-ltb room (length others) l) at e in
         let p : (g, others) ≡ (h, bytes) = cc in

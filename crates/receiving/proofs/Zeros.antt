@@ -15,7 +15,7 @@ use Rattle.receiving.proofs.Views.{unfit, unheard}
 
 -- an error is no answer
 error_is_no_answer : (r : Result ℕ FeedRefusal) (e : FeedRefusal) (n : ℕ) → r ≡ Err e → r ≡ Ok n → ⊥
-error_is_no_answer r e n p q = let z : ◌≡◌ {A = ℕ} 0 1 = cc in omega arith
+error_is_no_answer r e n p q = cc
 
 same_number : (m n : ℕ) → ◌≡◌ {A = Result ℕ FeedRefusal} (Ok m) (Ok n) → m ≡ n
 same_number m n e = cc

@@ -6,13 +6,13 @@ use Rattle.receiving.specs.declared.receivers.Receiver.{Receiver}
 use Rattle.receiving.specs.Keeping.{kept, rows_kept}
 use Rattle.receiving.specs.Steps.{View, deaf, heading, loading, whole}
 
--- By the phase, with the reference, the count and the cells of the rows kept, and the bytes decoded.
-abbrev pub view_at : Phase → List ℕ → ℕ → List ℕ → List ℕ → View
-view_at Deaf reference rows cells bytes = deaf
-view_at Heading reference rows cells bytes = heading reference rows cells
-view_at (Loading h) reference rows cells bytes = loading h rows cells
-view_at (Whole h n) reference rows cells bytes = whole h (take n bytes)
+-- By the phase, with the count and the cells of the rows kept, and the bytes decoded.
+abbrev pub view_at : Phase → ℕ → List ℕ → List ℕ → View
+view_at Deaf rows cells bytes = deaf
+view_at (Heading reference) rows cells bytes = heading reference.cells rows cells
+view_at (Loading l) rows cells bytes = loading l.header rows cells
+view_at (Whole h n) rows cells bytes = whole h (take n bytes)
 
 -- What a receiver holds.
 abbrev pub view : Receiver → View
-view r = view_at r.phase r.reference (rows_kept r.kept) (kept r.kept) r.bytes
+view r = view_at r.phase (rows_kept r.kept) (kept r.kept) r.bytes

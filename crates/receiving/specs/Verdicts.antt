@@ -1,14 +1,12 @@
 -- What the functions that decide on a part answer, and what they leave in the receiver.
-use Rattle.std.specs.Prelude.{◌≡◌, ℕ, ◌<◌, ◌≤◌, true, List, take, Ok, Err, Result}
+use Rattle.std.specs.Prelude.{◌≡◌, ℕ, ◌≤◌, List, take, Ok, Err, Result}
 use Rattle.stage.specs.declared.faults.ChainFault.{ChainFault}
 use Rattle.frame.specs.declared.headers.Header.{Header}
-use Rattle.frame.specs.Sizes.{row_count}
-use Rattle.rows.specs.Rows.{header_rows}
 use Rattle.receiving.specs.declared.refusals.FeedRefusal.{FeedRefusal}
 use Rattle.receiving.specs.declared.refusals.HeaderFault.{HeaderFault}
 use Rattle.receiving.specs.declared.refusals.PayloadFault.{PayloadFault}
-use Rattle.receiving.specs.Fronts.{most_rows}
-use Rattle.receiving.specs.Phases.{is_legal, most_bytes}
+use Rattle.receiving.specs.declared.states.LegalHeader.{LegalHeader}
+use Rattle.receiving.specs.Phases.{most_bytes}
 
 -- A chain's fault by the part of the frame that it was for.
 abbrev pub of_header : ChainFault → HeaderFault
@@ -22,16 +20,9 @@ abbrev pub turned : {E : Type 0} → (ChainFault → E) → Result (List ℕ) Ch
 turned name (Ok xs) = Ok xs
 turned name (Err f) = Err (name f)
 
--- What is known of a header behind which rows are awaited: there is a row to come, and the frame is
--- no longer than the longest.
-pub record Awaits (h : Header) : Type 0 where
-  pub legal : is_legal h ≡ true
-  pub some : header_rows < row_count h.fl
-  pub few : row_count h.fl ≤ most_rows
-
 -- The answer is the header wanted; or there is none, and the answer says why.
-abbrev pub Decided : Result Header FeedRefusal → Result Header FeedRefusal → Type 0
-Decided wanted (Ok h) = (wanted ≡ Ok h) × Awaits h
+abbrev pub Decided : Result Header FeedRefusal → Result LegalHeader FeedRefusal → Type 0
+Decided wanted (Ok l) = wanted ≡ Ok l.header
 Decided wanted (Err e) = wanted ≡ Err e
 
 -- The bytes wanted stand at the front of a buffer, as many as the answer says; or there are none,

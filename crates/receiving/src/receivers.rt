@@ -1,14 +1,11 @@
 //! The receiver.
-ghost use Rattle.std.specs.Prelude.{◌≡◌, ℕ, ◌<◌, ◌≤◌, true};
-ghost use Rattle.rows.specs.Carriers.{is_reference};
-ghost use Rattle.receiving.specs.Fronts.{most_rows};
+ghost use Rattle.std.specs.Prelude.{ℕ, ◌<◌, ◌≤◌};
 ghost use Rattle.receiving.specs.Keeping.{rows_kept};
-ghost use Rattle.receiving.specs.Phases.{at_least, bytes_of, fewer_than, legal_behind, most_bytes, rows_of};
+ghost use Rattle.receiving.specs.Phases.{at_least, bytes_of, fewer_than, most_bytes};
 
 use crate::kept::Kept;
 use crate::sizes::MOST_BYTES;
 use crate::states::Phase;
-use rows::CARRIERS;
 
 mod calls;
 mod hearing;
@@ -22,13 +19,10 @@ mod lawful;
 #[derive(Drop)]
 pub struct Receiver {
     phase: Phase,
-    reference: [u8; CARRIERS],
     kept: Kept,
+    // An array, whose count the phase has: a receiver asks for no memory.
     bytes: [u8; MOST_BYTES],
-    ghost refers: { is_reference reference ≡ true },
     ghost low: { at_least phase ≤ rows_kept kept },
     ghost high: { rows_kept kept < fewer_than phase },
-    ghost most: { rows_of phase ≤ most_rows },
     ghost short: { bytes_of phase ≤ most_bytes },
-    ghost legal: { legal_behind phase ≡ true },
 }

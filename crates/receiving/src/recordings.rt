@@ -22,6 +22,7 @@ pub enum RecordRefusal {
 }
 
 /// A reader of recorded rows: cells lent to it, one row of 36 behind the other.
+// No Iterator: a short part is refused as often as it is asked for, so the items would have no end.
 #[derive(Drop)]
 pub struct Recording<'a> {
     cells: &'a [u8],

@@ -53,6 +53,7 @@ pub enum TakeRefusal {
     TooShort,
 }
 
+// Two types alike: `From` goes by the type, and the part of the frame is what it adds.
 /// A fault of the header chain.
 #[derive(Clone, Copy, PartialEq, Eq, Debug)]
 pub struct HeaderFault(pub ChainFault);
@@ -104,7 +105,7 @@ impl From<Refusal> for FeedRefusal {
 }
 
 impl StartRefusal {
-    /// The number under which the refusal is known.
+    /// The number under which the refusal is known to hosts.
     pub fn number(self) -> u32
         ensures { result ≡ start_number self }
     {
@@ -115,7 +116,7 @@ impl StartRefusal {
 }
 
 impl FeedRefusal {
-    /// The number under which the refusal is known: that of the header's refusal, if it is one.
+    /// The number under which the refusal is known to hosts: that of the header's refusal, if it is one.
     pub fn number(self) -> u32
         ensures { result ≡ feed_number self }
     {
@@ -129,7 +130,7 @@ impl FeedRefusal {
 }
 
 impl TakeRefusal {
-    /// The number under which the refusal is known.
+    /// The number under which the refusal is known to hosts.
     pub fn number(self) -> u32
         ensures { result ≡ take_number self }
     {

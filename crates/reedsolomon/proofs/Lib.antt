@@ -2,3 +2,4 @@
 pub mod CallLaws
 pub mod MultiplyLaws
 pub mod RegisterLaws
+pub mod InPlace

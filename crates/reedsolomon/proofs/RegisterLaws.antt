@@ -1,13 +1,12 @@
--- The shift register's loops leave the parity of the message.
-use Rattle.std.proofs.Common.{◌≡◌, ℕ, zero, suc, ◌+◌, ◌*◌, ◌<◌, ◌≤◌, true, ◌⊎◌, List, [], ◌∷◌, ◌++◌, length, get_or, take, drop, sym, refl, ap, ◌∙◌, ap₂, inl, inr, arith}
+-- The shift register leaves the parity of the message.
+use Rattle.std.proofs.Common.{◌≡◌, ℕ, zero, suc, ◌+◌, ◌*◌, ◌<◌, ◌≤◌, true, ◌⊎◌, List, [], ◌∷◌, ◌++◌, length, get_or, take, drop, replicate, sym, refl, ap, ◌∙◌, ap₂, inl, inr, arith}
 use lib.Bits.{bit_xor}
-use Rattle.std.proofs.lemmas.List.{length_push, length-take-le, get_or-take, get_or-map, get_or-replicate, at_drop_more, at_drop_all}
+use Rattle.std.proofs.lemmas.List.{length_push, length-take-le, get_or-take, get_or-map, get_or_past, get_or-replicate, take-replicate, at_drop_more, at_drop_all}
 use Rattle.std.proofs.lemmas.Bool.{cases_lt}
 use Rattle.stage.specs.Lists.{same_by_places}
-use Rattle.codings.specs.Polynomials.{sum, zeros}
-use Rattle.codings.specs.PolynomialLaws.{length_zeros}
+use Rattle.codings.specs.Polynomials.{sum}
 use Rattle.reedsolomon.specs.Fields.{product}
-use Rattle.reedsolomon.specs.Codes.{scaled, fed, fed_all, known_strength, lower, parity}
+use Rattle.reedsolomon.specs.Codes.{scaled, fed, fed_all, remainder, known_strength, lower}
 use Rattle.reedsolomon.specs.Words.{generator_table, Shifted}
 use Rattle.reedsolomon.specs.ParityLaws.{length_scaled, length_fed}
 use Rattle.reedsolomon.specs.GeneratorLaws.{generating}
@@ -18,11 +17,6 @@ getD_push_zero [] zero = refl
 getD_push_zero [] (suc k) = refl
 getD_push_zero (x ∷ xs) zero = refl
 getD_push_zero (x ∷ xs) (suc k) = getD_push_zero xs k
-
-getD_behind : (xs : List ℕ) (k : ℕ) → length xs ≤ k → get_or xs k 0 ≡ 0
-getD_behind [] k l = refl
-getD_behind (x ∷ xs) zero l = absurd (omega arith)
-getD_behind (x ∷ xs) (suc k) l = getD_behind xs k (omega arith)
 
 getD_sum : (p q : List ℕ) (k : ℕ) → k < length p → k < length q → get_or (sum p q) k 0 ≡ bit_xor (get_or p k 0) (get_or q k 0)
 getD_sum [] q k l h = absurd (omega arith)
@@ -49,54 +43,60 @@ front_next count register k l next h = of (cases_lt (suc k) count)
     of (inl s) = get_or-take count register (suc k) 0 s ∙ ap (λ j. get_or register j 0) one_more
     of (inr s) =
         let here : k + 1 ≡ count = omega arith in
-        getD_behind (take count register) (suc k) (omega (arith, length-take-le count register (omega arith)))
+        get_or_past (take count register) (suc k) 0 (omega (arith, length-take-le count register (omega arith)))
         ∙ sym (ap (λ j. get_or register j 0) here ∙ next)
 
-shifted_is_fed : (g table before after : List ℕ) (byte count : ℕ) → take count table ≡ g → length g ≡ count → 0 < count → count < length before → length after ≡ length before → get_or before count 0 ≡ 0 → Shifted (bit_xor (get_or before 0 0) byte) table before after count → take count after ≡ fed g (take count before) byte
-shifted_is_fed g table before after byte count eg lg p l la next s =
-    same_by_places (take count after) (fed g (take count before) byte) (long ∙ sym (length_fed g (take count before) byte register_long ∙ lg)) at
+pub shifted_is_fed : (g before after : List ℕ) (byte : ℕ) → 0 < length g → length g < length before → length after ≡ length before
+    → get_or before (length g) 0 ≡ 0 → Shifted (bit_xor (get_or before 0 0) byte) g before after (length g)
+    → take (length g) after ≡ fed g (take (length g) before) byte
+shifted_is_fed g before after byte p l la next s =
+    same_by_places (take (length g) after) (fed g (take (length g) before) byte) (long ∙ sym (length_fed g (take (length g) before) byte register_long)) at
   where
-    long : length (take count after) ≡ count
-    long = length-take-le count after (omega arith)
+    long : length (take (length g) after) ≡ length g
+    long = length-take-le (length g) after (omega arith)
 
-    register_long : length (take count before) ≡ length g
-    register_long = length-take-le count before (omega arith) ∙ sym lg
+    register_long : length (take (length g) before) ≡ length g
+    register_long = length-take-le (length g) before (omega arith)
 
-    at : (i : ℕ) → i < length (take count after) → get_or (take count after) i 0 ≡ get_or (fed g (take count before) byte) i 0
+    at : (i : ℕ) → i < length (take (length g) after) → get_or (take (length g) after) i 0 ≡ get_or (fed g (take (length g) before) byte) i 0
     at i h =
-        let small : i < count = omega (arith, long) in
-        let table_at : get_or table i 0 ≡ get_or g i 0 = sym (get_or-take count table i 0 small) ∙ ap (λ z. get_or z i 0) eg in
-        let first : get_or (take count before) 0 0 ≡ get_or before 0 0 = get_or-take count before 0 0 p in
-        get_or-take count after i 0 small
+        let small : i < length g = omega (arith, long) in
+        let first : get_or (take (length g) before) 0 0 ≡ get_or before 0 0 = get_or-take (length g) before 0 0 p in
+        get_or-take (length g) after i 0 small
         ∙ s.moved i small
-        ∙ sym (fed_at g (take count before) byte i register_long (omega (arith, lg))
-        ∙ ap₂ bit_xor (front_next count before i l next small) (ap₂ product (ap (λ z. bit_xor z byte) first) (sym table_at)))
+        ∙ sym (fed_at g (take (length g) before) byte i register_long small
+        ∙ ap₂ bit_xor (front_next (length g) before i l next small) (ap (λ z. product (bit_xor z byte) (get_or g i 0)) first))
 
--- what is left of the message makes the parity of the whole
-pub record Dividing (t : ℕ) (message : List ℕ) (i : ℕ) (register : List ℕ) : Type 0 where
-  pub next : get_or register (2 * t) 0 ≡ 0
-  pub onward : fed_all (lower t) (take (2 * t) register) (drop i message) ≡ parity t message
+-- what is left of the message makes the remainder of the whole
+pub record Dividing (g : List ℕ) (message : List ℕ) (i : ℕ) (register : List ℕ) : Type 0 where
+  pub next : get_or register (length g) 0 ≡ 0
+  pub onward : fed_all g (take (length g) register) (drop i message) ≡ remainder g message
 
-pub dividing_start : (t : ℕ) (message register : List ℕ) → known_strength t ≡ true → 2 * t < length register → ((k : ℕ) → k < 2 * t + 1 → get_or register k 0 ≡ 0) → Dividing t message 0 register
-dividing_start t message register known l clear =
-    let g = generating t known in
-    let long : length (take (2 * t) register) ≡ 2 * t = length-take-le (2 * t) register (omega arith) in
-    let empty : take (2 * t) register ≡ zeros (length (lower t)) =
-    same_by_places (take (2 * t) register) (zeros (length (lower t))) (long ∙ sym (length_zeros (length (lower t)) ∙ g.long)) (λ i h.
-    get_or-take (2 * t) register i 0 (omega arith) ∙ clear i (omega arith) ∙ sym (get_or-replicate (length (lower t)) i 0 0 (omega (arith, g.long)))) in
-    record { next = clear (2 * t) (omega arith); onward = ap (λ r. fed_all (lower t) r message) empty }
-
-pub dividing_more : (t i : ℕ) (message table before after : List ℕ) → known_strength t ≡ true → table ≡ generator_table t → i < length message → 2 * t < length before → length after ≡ length before → Shifted (bit_xor (get_or before 0 0) (get_or message i 0)) table before after (2 * t) → Dividing t message i before → Dividing t message (i + 1) after
-dividing_more t i message table before after known et l lb la s d =
-    let g = generating t known in
-    let step : take (2 * t) after ≡ fed (lower t) (take (2 * t) before) (get_or message i 0) =
-    shifted_is_fed (lower t) table before after (get_or message i 0) (2 * t) (ap (take (2 * t)) et ∙ g.tabled) g.long (omega (arith, g.small.0)) lb la d.next s in
+pub dividing_start : (g message : List ℕ) (cells : ℕ) → length g < cells → Dividing g message 0 (replicate cells 0)
+dividing_start g message cells l =
     record {
-      next = s.rest (2 * t) (omega arith) ∙ d.next;
-      onward = ap (λ r. fed_all (lower t) r (drop (i + 1) message)) step
-          ∙ sym (at_drop_more (fed_all (lower t) (take (2 * t) before)) message i 0 l)
+      next = get_or-replicate cells (length g) 0 0 l;
+      onward = ap (λ r. fed_all g r message) (take-replicate (length g) cells 0 (omega arith));
+    }
+
+pub dividing_more : (g : List ℕ) (i : ℕ) (message before after : List ℕ) → 0 < length g → i < length message → length g < length before → length after ≡ length before
+    → Shifted (bit_xor (get_or before 0 0) (get_or message i 0)) g before after (length g) → Dividing g message i before → Dividing g message (i + 1) after
+dividing_more g i message before after p l lb la s d =
+    record {
+      next = s.rest (length g) (omega arith) ∙ d.next;
+      onward = ap (λ r. fed_all g r (drop (i + 1) message)) (shifted_is_fed g before after (get_or message i 0) p lb la d.next s)
+          ∙ sym (at_drop_more (fed_all g (take (length g) before)) message i 0 l)
           ∙ d.onward;
     }
 
-pub dividing_all : (t i : ℕ) (message register : List ℕ) → length message ≤ i → Dividing t message i register → take (2 * t) register ≡ parity t message
-dividing_all t i message register l d = sym (at_drop_all (fed_all (lower t) (take (2 * t) register)) message i l) ∙ d.onward
+pub dividing_all : (g : List ℕ) (i : ℕ) (message register : List ℕ) → length message ≤ i → Dividing g message i register → take (length g) register ≡ remainder g message
+dividing_all g i message register l d = sym (at_drop_all (fed_all g (take (length g) register)) message i l) ∙ d.onward
+
+-- the table has the generator's coefficients below its highest, and a register has more cells
+pub tabled_generator : (t : ℕ) (g : List ℕ) → known_strength t ≡ true → g ≡ take (2 * t) (generator_table t)
+    → (g ≡ lower t) × (length g ≡ 2 * t) × (0 < length g) × (length g < 17)
+tabled_generator t g known e =
+    let is = generating t known in
+    let low : g ≡ lower t = e ∙ is.tabled in
+    let long : length g ≡ 2 * t = ap length low ∙ is.long in
+    (low, long, omega (arith, is.small.0), omega (arith, is.small.1))

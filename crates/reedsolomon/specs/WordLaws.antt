@@ -8,7 +8,7 @@ use Rattle.stage.specs.Model.{plain, legal}
 use Rattle.stage.specs.Sound.{Sound}
 use Rattle.stage.specs.Lists.{value_of_some, within_at, same_by_places}
 use Rattle.stage.specs.Legality.{legal_within, legal_length}
-use Rattle.codings.specs.AgreementLaws.{some_under_test}
+use Rattle.stage.specs.AgreementLaws.{some_under_test}
 use Rattle.codings.specs.NearestBitLaws.{within_append}
 use Rattle.reedsolomon.specs.Codes.{known_strength, lower, parity, with_parity}
 use Rattle.reedsolomon.specs.Words.{longest_word, word_length, message_length, nearest_byte, words}

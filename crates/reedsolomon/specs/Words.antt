@@ -1,11 +1,9 @@
 -- The stage that puts parity behind a message: its lengths, its guess, and what its calls leave.
-use Rattle.std.specs.Prelude.{◌≡◌, ℕ, ◌+◌, ◌-◌, ◌*◌, ◌<◌, ◌≤◌, min, cond, ◌&&◌, List, [], ◌∷◌, map, length, take, Some, None, Ok, Err, Option, Result, ◌==◌, ◌≢◌, bit_xor, nat_le, slice_index}
-use Rattle.stage.specs.declared.faults.StageFault.{StageFault}
+use Rattle.std.specs.Prelude.{◌≡◌, ℕ, ◌+◌, ◌-◌, ◌*◌, ◌<◌, ◌≤◌, min, cond, ◌&&◌, List, [], ◌∷◌, map, take, Some, None, Ok, Err, Option, Result, ◌==◌, bit_xor, nat_le, slice_index}
 use Rattle.stage.specs.declared.faults.Refusal.{Refusal}
 use Rattle.stage.specs.declared.faults.Refusal.TheVariants.{Setting}
-use Rattle.stage.specs.Faults.{fault_at}
 use Rattle.stage.specs.Plain.{Plain}
-use Rattle.stage.specs.Model.{Model, plain, decoding}
+use Rattle.stage.specs.Model.{Model, plain}
 use Rattle.reedsolomon.specs.Fields.{product}
 use Rattle.reedsolomon.specs.Codes.{known_strength, with_parity}
 
@@ -54,14 +52,3 @@ generator_table t =
 pub record Shifted (feedback : ℕ) (table before after : List ℕ) (count : ℕ) : Type 0 where
   pub moved : (k : ℕ) → k < count → slice_index after k ≡ bit_xor (slice_index before (k + 1)) (product feedback (slice_index table k))
   pub rest : (k : ℕ) → count ≤ k → slice_index after k ≡ slice_index before k
-
--- Of `count` bytes of parity the first `same` stand in a buffer from a place on; the next, if there is one, does not.
-pub record Agreeing (count at : ℕ) (check buffer : List ℕ) (same : ℕ) : Type 0 where
-  pub few : same ≤ count
-  pub equal : (k : ℕ) → k < same → slice_index buffer (at + k) ≡ slice_index check k
-  pub stop : same < count → slice_index buffer (at + same) ≢ slice_index check same
-
--- The message before the parity, or the stage's fault.
-abbrev pub Unchecked : ℕ → ℕ → List ℕ → Result ℕ StageFault → Type 0
-Unchecked t n buffer (Ok count) = (decoding (plain (words t)) (take n buffer) ≡ Ok (take count buffer)) × (count ≤ length buffer)
-Unchecked t n buffer (Err f) = decoding (plain (words t)) (take n buffer) ≡ Err (fault_at f.number f.place)

@@ -1,16 +1,16 @@
 //! A stage that appends Reed-Solomon parity to a message of bytes.
 
-ghost use Rattle.std.specs.Prelude.{◌≡◌, ℕ, ◌+◌, ◌*◌, ◌<◌, ◌≤◌, true, length, take, slice_index};
+ghost use Rattle.std.specs.Prelude.{◌≡◌, ◌*◌, ◌<◌, true, length, take, Some, None};
 ghost use Rattle.std.specs.Result.{result_map_both};
-ghost use Rattle.stage.specs.Calls.{Holds};
-ghost use Rattle.stage.specs.Model.{plain, legal, code_room, decode_room};
-ghost use Rattle.reedsolomon.specs.Codes.{known_strength, parity, with_parity};
-ghost use Rattle.reedsolomon.specs.Words.{words, made_words, word_length, message_length, generator_table, Shifted, Agreeing, Unchecked};
-ghost use Rattle.stage.proofs.Plains.{plain_keeps};
+ghost use Rattle.stage.specs.Model.{plain};
+ghost use Rattle.stage.specs.Searches.{FirstDifference};
+ghost use Rattle.reedsolomon.specs.Codes.{known_strength, parity};
+ghost use Rattle.reedsolomon.specs.Words.{words, made_words, generator_table, Shifted};
 ghost use Rattle.reedsolomon.specs.WordLaws.{words_sound};
 
 use crate::fields::multiply;
-use stage::{ChainFault, Outline, Refusal, Span, Stage, StageFault};
+use stage::buffers::first_difference;
+use stage::{PlainStage, Refusal};
 
 /// The number under which the stage's faults are known.
 const NUMBER: u8 = 3;
@@ -24,16 +24,14 @@ const STRENGTH_ROBUST: usize = 4;
 /// How many damaged bytes any other code word is made to survive.
 const STRENGTH: usize = 8;
 
-/// The most bytes of parity.
-const MOST_PARITY: usize = 2 * STRENGTH;
+/// The cells of a register for the most parity, and one more.
+const REGISTER: usize = 2 * STRENGTH + 1;
 
-/// The generator with the roots α to α^8, below its highest coefficient, filled up.
-const GENERATOR_ROBUST: [u8; MOST_PARITY] = [
-    227, 44, 178, 71, 172, 8, 224, 37, 0, 0, 0, 0, 0, 0, 0, 0,
-];
+/// The generator with the roots α to α^8, below its highest coefficient.
+const GENERATOR_ROBUST: [u8; 8] = [227, 44, 178, 71, 172, 8, 224, 37];
 
 /// The generator with the roots α to α^16, below its highest coefficient.
-const GENERATOR: [u8; MOST_PARITY] = [
+const GENERATOR: [u8; 16] = [
     118, 52, 103, 31, 104, 126, 187, 232, 17, 56, 183, 49, 100, 81, 44, 79,
 ];
 
@@ -61,159 +59,96 @@ impl ReedSolomon {
             Err(Refusal::Setting)
         }
     }
-}
 
-/// The length with parity, if so many bytes are taken.
-fn length_with_parity(t: usize, length: usize) -> Option<usize>
-    requires { known_strength t ≡ true }
-    ensures { result ≡ word_length t length }
-{
-    if 1 <= length && length <= LONGEST - 2 * t {
-        Some(length + 2 * t)
-    } else {
-        None
-    }
-}
-
-/// The length without parity, if a code word has that length.
-fn length_without_parity(t: usize, length: usize) -> Option<usize>
-    requires { known_strength t ≡ true }
-    ensures { result ≡ message_length t length }
-{
-    if 2 * t + 1 <= length && length <= LONGEST {
-        Some(length - 2 * t)
-    } else {
-        None
-    }
-}
-
-/// The generator's coefficients.
-fn generator_of(t: usize) -> [u8; MOST_PARITY]
-    ensures { result ≡ generator_table t }
-{
-    if t == STRENGTH_ROBUST {
-        GENERATOR_ROBUST
-    } else {
-        GENERATOR
-    }
-}
-
-/// Makes the first `count` cells of a register 0.
-fn clear(count: usize, register: &mut [u8])
-    requires { count ≤ length register.old }
-    ensures { (k : ℕ) → k < count → slice_index register.new k ≡ 0 }
-{
-    for i in 0..count {
-        register[i] = 0;
-    }
-}
-
-/// Moves the first `count` cells of a register up one power and adds the generator, `feedback`
-/// times; what stands behind them is taken in.
-fn shift(count: usize, feedback: u8, generator: &[u8], register: &mut [u8])
-    requires table { count ≤ length generator.now }
-    requires room { count < length register.old }
-    ensures { Shifted feedback generator.now register.old register.new count }
-{
-    for i in 0..count {
-        register[i] = register[i + 1] ^ multiply(feedback, generator[i]);
-    }
-}
-
-/// Leaves the parity of a message in front of `register`.
-fn divide(t: usize, message: &[u8], register: &mut [u8])
-    requires known { known_strength t ≡ true }
-    requires room { 2 * t < length register.old }
-    ensures { take (2 * t) register.new ≡ parity t message.now }
-{
-    let generator = generator_of(t);
-    clear(2 * t + 1, register);
-    for byte in message {
-        shift(2 * t, register[0] ^ *byte, &generator, register);
-    }
-}
-
-/// Puts the parity behind the `n` bytes in front of `buffer` and answers how many bytes that makes.
-fn append_parity(t: usize, n: usize, work: &mut [u8], buffer: &mut [u8]) -> usize
-    requires known { known_strength t ≡ true }
-    requires list { legal (plain (words t)) (take n buffer.old) ≡ true }
-    requires front { n ≤ length buffer.old }
-    requires work_room { code_room (plain (words t)) n ≤ length work.old }
-    requires room { code_room (plain (words t)) n ≤ length buffer.old }
-    ensures { Holds buffer.new result (with_parity t (take n buffer.old)) }
-{
-    divide(t, &buffer[0..n], work);
-    buffer[n..n + 2 * t].copy_from_slice(&work[0..2 * t]);
-    n + 2 * t
-}
-
-/// How many of `count` bytes of parity stand in `buffer` from `at` on, up to the first that does
-/// not.
-fn agreeing(count: usize, at: usize, check: &[u8], buffer: &[u8]) -> usize
-    requires check { count ≤ length check.now }
-    requires room { at + count ≤ length buffer.now }
-    ensures { Agreeing count at check.now buffer.now result }
-{
-    for i in 0..count {
-        if buffer[at + i] != check[i] {
-            return i;
-        }
-    }
-    count
-}
-
-/// The length of the message before the parity, of `n` elements in front of `buffer`, or the fault.
-fn take_back(t: usize, n: usize, work: &mut [u8], buffer: &[u8]) -> Result<usize, StageFault>
-    requires known { known_strength t ≡ true }
-    requires front { n ≤ length buffer.now }
-    requires room { decode_room (plain (words t)) n ≤ length work.old }
-    ensures { Unchecked t n buffer.now result }
-{
-    let Some(count) = length_without_parity(t, n) else {
-        return Err(StageFault {
-            number: NUMBER,
-            place: 0,
-        });
-    };
-    divide(t, &buffer[0..count], work);
-    let same = agreeing(2 * t, count, work, buffer);
-    if same < 2 * t {
-        return Err(StageFault {
-            number: NUMBER,
-            place: count + same,
-        });
-    }
-    Ok(count)
-}
-
-impl Stage for ReedSolomon {
-    ghost model = { λ s. plain (words s.strength) };
-
-    ghost keeps = { λ s h. plain_keeps (words s.strength) (words_sound s.strength s.known) };
-
-    fn outline(&self) -> Outline {
-        Outline {
-            takes: 255,
-            puts: 255,
-            members: 1,
-            fit: true,
+    /// The generator's coefficients below its highest.
+    fn generator(&self) -> &'static [u8]
+        ensures { result.now ≡ take (2 * self.now.strength) (generator_table self.now.strength) }
+    {
+        if self.strength == STRENGTH_ROBUST {
+            &GENERATOR_ROBUST
+        } else {
+            &GENERATOR
         }
     }
 
-    fn coded_span(&self, length: usize) -> Span {
-        Span::of(length, length_with_parity(self.strength, length))
+    /// The parity of a message, at the front of a register for the most of it and one cell more.
+    fn parity(&self, message: &[u8]) -> [u8; REGISTER]
+        ensures { take (2 * self.now.strength) result ≡ parity self.now.strength message.now }
+    {
+        let generator = self.generator();
+        let mut register = [0u8; REGISTER];
+        for byte in message {
+            shift(generator, register[0] ^ *byte, &mut register);
+        }
+        register
     }
 
-    fn decoded_span(&self, length: usize) -> Span {
-        Span::of(length, length_without_parity(self.strength, length))
+    /// The first place at which `check` is not the parity of a message.
+    fn first_wrong(&self, message: &[u8], check: &[u8]) -> Option<usize>
+        requires { length check.now ≡ 2 * self.now.strength }
+        ensures { FirstDifference check.now (parity self.now.strength message.now) result }
+    {
+        let parity = self.parity(message);
+        first_difference(check, &parity[..check.len()])
+    }
+}
+
+/// Moves the cells of a register up one power and adds the generator, `feedback` times; the cell
+/// behind them is taken in.
+fn shift(generator: &[u8], feedback: u8, register: &mut [u8])
+    requires { length generator.now < length register.old }
+    ensures { Shifted feedback generator.now register.old register.new (length generator.now) }
+{
+    for (i, coefficient) in generator.iter().enumerate() {
+        // An index: each cell is made of the one behind it, which the next turn writes.
+        register[i] = register[i + 1] ^ multiply(feedback, *coefficient);
+    }
+}
+
+impl PlainStage for ReedSolomon {
+    ghost meaning = { λ s. words s.strength };
+
+    fn number(&self) -> u8 {
+        NUMBER
     }
 
-    fn code_in(&self, n: usize, work: &mut [u8], res: &mut [u8]) -> usize {
-        append_parity(self.strength, n, work, res)
+    fn takes(&self) -> u8 {
+        255
     }
 
-    fn decode_in(&self, n: usize, work: &mut [u8], res: &mut [u8]) -> Result<usize, ChainFault> {
-        let length = take_back(self.strength, n, work, res)?;
-        Ok(length)
+    fn puts(&self) -> u8 {
+        255
     }
+
+    fn coded_length(&self, length: usize) -> Option<usize> {
+        if 1 <= length && length <= LONGEST - 2 * self.strength {
+            Some(length + 2 * self.strength)
+        } else {
+            None
+        }
+    }
+
+    fn message_length(&self, length: usize) -> Option<usize> {
+        if 2 * self.strength + 1 <= length && length <= LONGEST {
+            Some(length - 2 * self.strength)
+        } else {
+            None
+        }
+    }
+
+    fn write_coding(&self, list: &[u8], coded: &mut [u8]) {
+        let parity = self.parity(list);
+        let (front, back) = coded.split_at_mut(list.len());
+        front.copy_from_slice(list);
+        back.copy_from_slice(&parity[..back.len()]);
+    }
+
+    fn regain(&self, received: &[u8], list: &mut [u8]) -> Option<usize> {
+        let (message, check) = received.split_at(list.len());
+        list.copy_from_slice(message);
+        let place = self.first_wrong(message, check)?;
+        Some(message.len() + place)
+    }
+
+    ghost sound = { λ s. words_sound s.strength s.known };
 }

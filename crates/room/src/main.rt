@@ -6,6 +6,7 @@ use desk::Desk;
 use std::io;
 use std::io::{BufRead, BufReader, BufWriter, Write};
 
+// As `bench` but for who answers: the loop over lines is all there is, and a closure would hide what is kept.
 fn main(rt: HostRuntime) -> io::Result<()> {
     let heap = rt.alloc();
     let mut input = BufReader::new(heap, rt.stdin())?;

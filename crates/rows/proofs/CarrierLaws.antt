@@ -1,15 +1,17 @@
 -- How many cells are live, and what gathering keeps of spread cells.
-use Rattle.std.proofs.Common.{◌≡◌, ℕ, zero, suc, ◌+◌, ◌*◌, ◌%◌, ◌<◌, ◌≤◌, Bool, true, false, cond, ◌&&◌, eqb, leb, ◌⊎◌, List, [], ◌∷◌, ◌++◌, map, length, get_or, drop, sym, refl, ap, ◌∙◌, subst, inl, inr, append-nil, add-zero, mul-suc, arith}
+use Rattle.std.proofs.Common.{◌≡◌, ℕ, zero, suc, ◌+◌, ◌*◌, ◌%◌, ◌<◌, ◌≤◌, Bool, true, false, cond, ◌&&◌, eqb, leb, ◌⊎◌, List, [], ◌∷◌, ◌++◌, map, length, get_or, take, drop, sym, refl, ap, ◌∙◌, subst, inl, inr, append-nil, add-zero, mul-suc, arith}
 use lib.Count.{ones, ones_in}
 use lib.ListN.{get_or-eq_default}
 use Rattle.std.specs.List.{range_with_len}
 use Rattle.frame.specs.Sizes.{live_carriers}
 use Rattle.std.proofs.lemmas.List.FromFn.{get_or-map-range_with_len, length-map-range_with_len}
-use Rattle.std.proofs.lemmas.List.{drop_all, drop_more}
+use Rattle.std.proofs.lemmas.List.{drop_all, drop_more, take_at}
 use Rattle.std.proofs.lemmas.Bool.{and_parts, and_from, cases_lt}
 use Rattle.std.proofs.lemmas.Bool.Decides.{Decides-below_and, Decides-eqb}
+use Rattle.stage.specs.Calls.{Holds}
 use Rattle.stage.specs.Plain.{within}
-use Rattle.rows.specs.Carriers.{Silent, count_before, gathered, kept_from, live, live_cell, spread, spread_cell}
+use Rattle.rows.proofs.GatherLaws.{count_few, laid_fits}
+use Rattle.rows.specs.Carriers.{Silent, count_before, gathered, kept_from, laid_over, live, live_cell, spread, spread_cell}
 
 -- Two functions agree below a bound if a computed test says so.
 abbrev agree : (ℕ → ℕ) → (ℕ → ℕ) → ℕ → Bool
@@ -137,3 +139,21 @@ spread_silent tm n given place silent = of (cases_lt place n)
 pub spread_long : (tm n : ℕ) (given : List ℕ) → length (spread tm n given) ≡ n
 unfolding spread
 spread_long tm n given = length-map-range_with_len (spread_cell tm given) 0 n
+
+-- There are no more live cells than cells.
+gathered_short : (tm : ℕ) (cells : List ℕ) → length (gathered tm cells) ≤ length cells
+unfolding gathered
+gathered_short tm cells =
+    let z : 0 + length cells ≡ length cells = omega arith in
+    let few = count_few (live_cell tm) (0 + length cells) in
+    omega (arith, kept_length (live_cell tm) 0 cells)
+
+-- Laid over a buffer that has room for all cells, the live ones are its front.
+pub gathered_held : (tm : ℕ) (cells buffer after : List ℕ) (n : ℕ) → length cells ≤ length buffer → n ≡ length (gathered tm cells) → length after ≡ length buffer → after ≡ laid_over (gathered tm cells) buffer → Holds after n (gathered tm cells)
+gathered_held tm cells buffer after n h e l a =
+    let few = gathered_short tm cells in
+    let g = gathered tm cells in
+    record {
+      long = omega arith;
+      front = ap (take n) (a ∙ laid_fits g buffer (omega arith)) ∙ take_at g (drop (length g) buffer) n (sym e);
+    }

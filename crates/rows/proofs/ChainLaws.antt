@@ -14,24 +14,28 @@ use Rattle.chains.proofs.HeaderSteps.{header_carries}
 use Rattle.chains.proofs.PayloadSteps.{payload_carries}
 use Rattle.rows.specs.Carriers.{gathered, is_reference}
 use Rattle.rows.proofs.CarrierLaws.{gathered_length, gathered_within}
-use Rattle.rows.proofs.CarryLaws.{carried_legal}
+use Rattle.chains.proofs.Callers.{right_is_legal}
 use Rattle.rows.proofs.RowLaws.{legal_tone_map_low}
+
+-- A reference has 36 cells, and each is a phase.
+pub reference_parts : (reference : List ℕ) → is_reference reference ≡ true → (length reference ≡ 36) × (within 7 reference ≡ true)
+reference_parts reference h =
+    let p = and_parts (eqb (length reference) 36) (within 7 reference) h in
+    (eqb-true (length reference) 36 p.0, p.1)
 
 -- The header chain over a reference carries a header's bits.
 pub reference_carries : (reference : List ℕ) → is_reference reference ≡ true → Carries (header_chain reference) 1 28 468 468
-reference_carries reference h =
-    let p = and_parts (eqb (length reference) 36) (within 7 reference) h in
-    header_carries reference (eqb-true (length reference) 36 p.0) p.1
+reference_carries reference h = let p = reference_parts reference h in header_carries reference p.0 p.1
 
 pub header_bits_legal : (h : Header) (reference : List ℕ) → is_reference reference ≡ true → legal (header_chain reference) (header_bits h) ≡ true
 header_bits_legal h reference r =
-    carried_legal (header_chain reference) 1 28 468 468 (header_bits h) (reference_carries reference r) (header_bits_length h) (header_bits_within h)
+    right_is_legal (header_chain reference) 1 28 468 468 (reference_carries reference r) (header_bits h) (header_bits_length h) (header_bits_within h)
 
 -- The live cells of a row of phases: one for each live carrier.
 pub row_gathered : (h : Header) (row : List ℕ) → Legal h → is_reference row ≡ true → (length (gathered h.tm row) ≡ live_carriers h.tm) × (within 7 (gathered h.tm row) ≡ true)
 row_gathered h row legal r =
-    let p = and_parts (eqb (length row) 36) (within 7 row) r in
-    let l : length row ≡ 36 * 1 = eqb-true (length row) 36 p.0 in
+    let p = reference_parts row r in
+    let l : length row ≡ 36 * 1 = p.0 in
     let m : live_carriers h.tm * 1 ≡ live_carriers h.tm = omega arith in
     (gathered_length h.tm 1 row (legal_tone_map_low h legal) l ∙ m, gathered_within 7 h.tm row p.1)
 

@@ -2,7 +2,5 @@
 pub mod GatherLaws
 pub mod FitLaws
 pub mod CarrierLaws
-pub mod CarryLaws
 pub mod RowLaws
 pub mod ChainLaws
-pub mod AnswerLaws

@@ -1,7 +1,8 @@
 //! Carriers of a row: which are live, and how high their cells may be.
-ghost use Rattle.std.specs.Prelude.{◌≡◌, ℕ, ◌+◌, ◌%◌, ◌<◌};
-ghost use Rattle.rows.specs.Carriers.{carriers, highest_on, is_reference, live, row_fits};
+ghost use Rattle.std.specs.Prelude.{◌≡◌, ℕ, ◌%◌};
+ghost use Rattle.rows.specs.Carriers.{carriers, highest_on, is_reference, live_cell, row_fits};
 
+use frame::BAND_CARRIERS;
 use stage::buffers::all_within;
 
 /// The carriers of a row.
@@ -13,26 +14,21 @@ pub const HIGHEST_PHASE: u8 = 7;
 /// The cell of a silent carrier.
 pub const SILENCE: u8 = 8;
 
-/// The carriers of a sub-band.
-const BAND_CARRIERS: usize = 6;
-
-/// Whether a carrier is live under a tone map.
-pub(crate) fn is_live(tm: u32, carrier: usize) -> bool
-    requires { carrier < 36 }
-    ensures { result ≡ live tm carrier }
+/// Whether the cell at a place of rows, one behind the other, lies on a live carrier.
+pub(crate) fn is_live(tm: u32, place: usize) -> bool
+    ensures { result ≡ live_cell tm place }
 {
-    (tm >> (carrier / BAND_CARRIERS)) % 2 == 1
+    (tm >> (place % CARRIERS / BAND_CARRIERS)) % 2 == 1
 }
 
-/// The carrier behind this one, and behind the last of a row the first of the next.
-pub(crate) fn next_carrier(carrier: usize) -> usize
-    requires { carrier < 36 }
-    ensures { result ≡ (carrier + 1) % carriers }
+/// The highest number that the cell at a place of rows may be.
+fn highest_at(tm: u32, place: usize) -> u8
+    ensures { result ≡ highest_on tm (place % carriers) }
 {
-    if carrier + 1 == CARRIERS {
-        0
+    if is_live(tm, place) {
+        HIGHEST_PHASE
     } else {
-        carrier + 1
+        SILENCE
     }
 }
 
@@ -43,30 +39,14 @@ pub fn is_reference(row: &[u8]) -> bool
     row.len() == CARRIERS && all_within(row, HIGHEST_PHASE)
 }
 
-/// The highest number that a cell on a carrier may be.
-fn highest_on(tm: u32, carrier: usize) -> u8
-    requires { carrier < 36 }
-    ensures { result ≡ highest_on tm carrier }
-{
-    if is_live(tm, carrier) {
-        HIGHEST_PHASE
-    } else {
-        SILENCE
-    }
-}
-
 /// Whether a row can be one of a payload with this tone map: 36 cells, phases on live carriers, and
 /// phases or silence on the others.
 pub fn row_fits(tm: u32, row: &[u8]) -> bool
     ensures { result ≡ row_fits tm row.now }
 {
-    if row.len() != CARRIERS {
-        return false;
-    }
-    for carrier in 0..CARRIERS {
-        if row[carrier] > highest_on(tm, carrier) {
-            return false;
-        }
-    }
-    true
+    row.len() == CARRIERS
+        && row
+            .iter()
+            .enumerate()
+            .all(|(place, cell)| *cell <= highest_at(tm, place))
 }

@@ -1,70 +1,37 @@
 //! Gathering the live cells of rows, and spreading them over rows.
-ghost use Rattle.std.specs.Prelude.{◌≡◌, ℕ, ◌+◌, ◌<◌, length, if◌then◌else◌, slice_index, slice_set};
-ghost use Rattle.rows.specs.Carriers.{gathered, laid_over, silence, spread};
+ghost use Rattle.std.specs.Prelude.{◌≡◌, ℕ, ◌≤◌, length};
+ghost use Rattle.rows.specs.Carriers.{gathered, laid_over, spread};
+ghost use Rattle.stage.specs.Calls.{Holds};
 
-use crate::carriers::{SILENCE, is_live, next_carrier};
+use crate::carriers::{SILENCE, is_live};
 
-/// Writes a cell at a place, if the buffer has that place.
-fn put(cell: u8, place: usize, buffer: &mut [u8])
-    ensures { buffer.new ≡ slice_set buffer.old place cell }
-{
-    if place < buffer.len() {
-        buffer[place] = cell;
-    }
-}
-
-/// Writes a cell behind `count` others if it is kept; answers how many there are then.
-fn keep(kept: bool, cell: u8, count: usize, buffer: &mut [u8]) -> usize
-    requires { count < 9223372036854775808 }
-    ensures value { result ≡ count + (if kept then 1 else 0) }
-    ensures buffer { buffer.new ≡ (if kept then slice_set buffer.old count cell else buffer.old) }
-{
-    if !kept {
-        return count;
-    }
-    put(cell, count, buffer);
-    count + 1
-}
-
+// Filled buffers and counts: senders and receivers ask for no memory.
 /// Puts the live cells of rows to the front of a buffer, row by row, the lowest carrier first, as
 /// many as it has room for; answers how many there are.
 pub fn gather(tm: u32, cells: &[u8], buffer: &mut [u8]) -> usize
     ensures value { result ≡ length (gathered tm cells.now) }
     ensures buffer { buffer.new ≡ laid_over (gathered tm cells.now) buffer.old }
 {
-    let mut carrier = 0;
     let mut count = 0;
-    for cell in cells {
-        count = keep(is_live(tm, carrier), *cell, count, buffer);
-        carrier = next_carrier(carrier);
+    for (place, cell) in cells.iter().enumerate() {
+        if is_live(tm, place) {
+            // An index: of a write through get_mut or iter_mut's next, proofs know the length alone.
+            if count < buffer.len() {
+                buffer[count] = *cell;
+            }
+            count += 1;
+        }
     }
     count
 }
 
-/// The given cell at a place, and 0 behind the last.
-fn given_at(given: &[u8], place: usize) -> u8
-    ensures { result ≡ slice_index given.now place }
+/// Puts the live cells of rows to the front of a buffer that could hold all their cells; answers how
+/// many there are.
+pub fn gather_all(tm: u32, cells: &[u8], buffer: &mut [u8]) -> usize
+    requires { length cells.now ≤ length buffer.old }
+    ensures { Holds buffer.new result (gathered tm cells.now) }
 {
-    if place < given.len() { given[place] } else { 0 }
-}
-
-/// The next of the given cells on a live carrier, and silence elsewhere.
-fn cell_for(live: bool, given: &[u8], count: usize) -> u8
-    ensures { result ≡ (if live then slice_index given.now count else silence) }
-{
-    if live {
-        given_at(given, count)
-    } else {
-        SILENCE
-    }
-}
-
-/// How many given cells are used up behind a carrier.
-fn used(live: bool, count: usize) -> usize
-    requires { count < 9223372036854775808 }
-    ensures { result ≡ count + (if live then 1 else 0) }
-{
-    if live { count + 1 } else { count }
+    gather(tm, cells, buffer)
 }
 
 /// Fills rows with the given cells, one after the other, on live carriers, and with silence on the
@@ -72,12 +39,12 @@ fn used(live: bool, count: usize) -> usize
 pub fn spread(tm: u32, given: &[u8], cells: &mut [u8])
     ensures { cells.new ≡ spread tm (length cells.old) given.now }
 {
-    let mut carrier = 0;
-    let mut count = 0;
-    for place in 0..cells.len() {
-        let live = is_live(tm, carrier);
-        cells[place] = cell_for(live, given, count);
-        count = used(live, count);
-        carrier = next_carrier(carrier);
+    let mut rest = given.iter();
+    for (place, cell) in cells.iter_mut().enumerate() {
+        *cell = if is_live(tm, place) {
+            rest.next().copied().unwrap_or(0)
+        } else {
+            SILENCE
+        };
     }
 }

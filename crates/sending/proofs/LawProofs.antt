@@ -15,15 +15,15 @@ use Rattle.sending.specs.Sendings.{begin_answer, begin_buffer, begin_legal, begi
 use Rattle.sending.proofs.SentLaws.{sent_holds, written_is_sent}
 
 some_none : {A : Type 0} (a : A) → ◌≡◌ {A = Option A} (Some a) None → ⊥
-some_none a q = let z : ◌≡◌ {A = ℕ} 0 1 = cc in omega arith
+some_none a q = cc
 
 begin_none : (o : Option BeginRefusal) (h k : Header) → begin_unless o h ≡ Ok k → o ≡ None
 begin_none None h k q = refl
-begin_none (Some e) h k q = let z : ◌≡◌ {A = ℕ} 0 1 = cc in let w : ⊥ = omega arith in absurd w
+begin_none (Some e) h k q = absurd (cc)
 
 finish_none : (o : Option FinishRefusal) (h : Header) (rows : ℕ) → finish_unless o h ≡ Ok rows → o ≡ None
 finish_none None h rows q = refl
-finish_none (Some e) h rows q = let z : ◌≡◌ {A = ℕ} 0 1 = cc in let w : ⊥ = omega arith in absurd w
+finish_none (Some e) h rows q = absurd (cc)
 
 -- What an accepted begin tells.
 accepted : (o : Option Refusal) (h : Header) (reference : List ℕ) (room : ℕ) → begin_legal o h reference room ≡ None → (o ≡ None) × ((is_reference reference ≡ true) × (frame_cells h ≤ room))

@@ -12,7 +12,7 @@ use Rattle.rows.specs.Carriers.{Silent, count_before, gathered, is_reference, li
 use Rattle.rows.specs.Rows.{RowsOf, cells_of, payload_reference}
 use Rattle.rows.proofs.CarrierLaws.{count_rows, gathered_spread, spread_long, spread_silent}
 use Rattle.rows.proofs.ChainLaws.{header_bits_legal, reference_carries, row_carries}
-use Rattle.rows.proofs.CarryLaws.{carried_legal, coding_long, coding_phases}
+use Rattle.chains.proofs.Callers.{coding_is_long, coding_is_phases, right_is_legal}
 use Rattle.rows.proofs.RowLaws.{last_row_of_front, last_row_refers, legal_tone_map_low, rows_in_cells, rows_in_count, rows_in_whole}
 use Rattle.sending.specs.Laws.{HoldsFrame}
 use Rattle.sending.specs.Sendings.{frame_cells, header_part, payload_part, sent}
@@ -22,7 +22,7 @@ pub header_part_long : (h : Header) (reference : List ℕ) → is_reference refe
 header_part_long h reference r =
     let c = reference_carries reference r in
     let l = header_bits_legal h reference r in
-    (coding_long (header_chain reference) 1 28 468 468 (header_bits h) c l, coding_phases (header_chain reference) 1 28 468 468 (header_bits h) c l)
+    (coding_is_long (header_chain reference) 1 28 468 468 c (header_bits h) l, coding_is_phases (header_chain reference) 1 28 468 468 c (header_bits h) l)
 
 -- The payload's coding has a cell for each live place of the payload's rows.
 pub payload_coding_long : (h : Header) (row bytes : List ℕ) → Legal h → is_reference row ≡ true → length bytes ≡ payload h → within 255 bytes ≡ true
@@ -30,8 +30,8 @@ pub payload_coding_long : (h : Header) (row bytes : List ℕ) → Legal h → is
 payload_coding_long h row bytes legal r n w =
     let m = payload_chain h (gathered h.tm row) in
     let c = row_carries h row legal r in
-    let l = carried_legal m 255 (payload h) (live_carriers h.tm * payload_rows h.fl) 9072 bytes c n w in
-    coding_long m 255 (payload h) (live_carriers h.tm * payload_rows h.fl) 9072 bytes c l ∙ sym (count_rows h.tm (legal_tone_map_low h legal) (payload_rows h.fl))
+    let l = right_is_legal m 255 (payload h) (live_carriers h.tm * payload_rows h.fl) 9072 c bytes n w in
+    coding_is_long m 255 (payload h) (live_carriers h.tm * payload_rows h.fl) 9072 c bytes l ∙ sym (count_rows h.tm (legal_tone_map_low h legal) (payload_rows h.fl))
 
 payload_part_long : (h : Header) (bytes cells : List ℕ) → length (payload_part h bytes cells) ≡ 36 * payload_rows h.fl
 payload_part_long h bytes cells = spread_long h.tm (36 * payload_rows h.fl) (coding (payload_chain h (payload_reference h cells)) bytes)

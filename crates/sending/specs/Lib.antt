@@ -1,5 +1,4 @@
 -- Sending: what begin, finish and send answer, and which cells they write.
-pub mod Begun
 pub mod Numbers
 pub mod Sendings
 pub mod Laws

@@ -1,5 +1,5 @@
 -- Begin writes the header's rows of a frame into a buffer, finish the payload's, and send both.
-use Rattle.std.specs.Prelude.{◌≡◌, ℕ, ◌*◌, ◌≤◌, true, cond, List, ◌++◌, length, take, drop, Some, None, Ok, Err, Option, Result, ◌==◌, nat_lt}
+use Rattle.std.specs.Prelude.{◌≡◌, ℕ, ◌*◌, ◌≤◌, cond, List, ◌++◌, length, take, drop, Some, None, Ok, Err, Option, Result, ◌==◌, nat_lt}
 use Rattle.std.specs.Result.{result_map_both}
 use Rattle.stage.specs.Model.{coding}
 use Rattle.frame.specs.declared.headers.Header.{Header}
@@ -10,10 +10,10 @@ use Rattle.packing.specs.Bits.{header_bits}
 use Rattle.chains.specs.Chains.{header_chain, payload_chain}
 use Rattle.rows.specs.Carriers.{carriers, is_reference, row_at, spread}
 use Rattle.rows.specs.Rows.{header_cells, last_header_row, payload_reference}
-use Rattle.sending.specs.Begun.{is_legal}
+use Rattle.rows.specs.declared.references.Reference.{Reference}
 use Rattle.sending.specs.declared.begun.Begun.{Begun}
 use Rattle.sending.specs.declared.refusals.BeginRefusal.{BeginRefusal}
-use Rattle.sending.specs.declared.refusals.BeginRefusal.TheVariants.{Header as BadHeader, Reference, TooShort}
+use Rattle.sending.specs.declared.refusals.BeginRefusal.TheVariants.{Header as BadHeader, Reference as NoReference, TooShort}
 use Rattle.sending.specs.declared.refusals.FinishRefusal.{FinishRefusal}
 use Rattle.sending.specs.declared.refusals.FinishRefusal.TheVariants.{PayloadLength, TooShort as RowsTooShort, Reference as RowReference}
 use Rattle.sending.specs.declared.refusals.SendRefusal.{SendRefusal}
@@ -28,7 +28,7 @@ frame_cells h = carriers * row_count h.fl
 abbrev pub begin_legal : Option Refusal → Header → List ℕ → ℕ → Option BeginRefusal
 begin_legal (Some e) h reference room = Some (BadHeader e)
 begin_legal None h reference room =
-    cond (is_reference reference) (cond (nat_lt room (frame_cells h)) (Some TooShort) None) (Some Reference)
+    cond (is_reference reference) (cond (nat_lt room (frame_cells h)) (Some TooShort) None) (Some NoReference)
 
 abbrev pub begin_refusal : Header → List ℕ → ℕ → Option BeginRefusal
 begin_refusal h reference room = begin_legal (refusal h) h reference room
@@ -41,11 +41,11 @@ begin_unless None h = Ok h
 abbrev pub begin_answer : Header → List ℕ → ℕ → Result Header BeginRefusal
 begin_answer h reference room = begin_unless (begin_refusal h reference room) h
 
--- What holds where begin is not refused.
-abbrev pub CanBegin : Option BeginRefusal → Header → List ℕ → ℕ → Type 0
-CanBegin (Some e) h reference room = Unit {0}
-CanBegin None h reference room =
-    (is_legal h ≡ true) × ((is_reference reference ≡ true) × (frame_cells h ≤ room))
+-- A frame that can be begun is one of this header, and comes with this reference; another is refused.
+abbrev pub CanBegin : Result (Begun × Reference) BeginRefusal → Header → List ℕ → ℕ → Type 0
+CanBegin (Ok frame) h reference room =
+    (begin_refusal h reference room ≡ None) × ((frame.0.header ≡ h) × ((frame.1.cells ≡ reference) × (frame_cells h ≤ room)))
+CanBegin (Err e) h reference room = begin_refusal h reference room ≡ Some e
 
 -- A begun frame by its header.
 abbrev pub begun_told : Result Begun BeginRefusal → Result Header BeginRefusal
@@ -72,11 +72,11 @@ finish_refusal h count cells =
     (cond (is_reference (row_at last_header_row cells)) None (Some RowReference)))
     (Some PayloadLength)
 
--- What holds where finish is not refused.
-abbrev pub CanFinish : Option FinishRefusal → Header → ℕ → List ℕ → Type 0
-CanFinish (Some e) h count cells = Unit {0}
-CanFinish None h count cells =
-    (count ≡ payload h) × ((frame_cells h ≤ length cells) × (is_reference (row_at last_header_row cells) ≡ true))
+-- A frame that can be finished goes on from the last header row in the buffer; another is refused.
+abbrev pub CanFinish : Result Reference FinishRefusal → Header → ℕ → List ℕ → Type 0
+CanFinish (Ok row) h count cells =
+    (finish_refusal h count cells ≡ None) × ((count ≡ payload h) × ((frame_cells h ≤ length cells) × (row.cells ≡ row_at last_header_row cells)))
+CanFinish (Err why) h count cells = finish_refusal h count cells ≡ Some why
 
 -- How many rows the frame has, or the refusal with the header of the begun frame that is handed back.
 abbrev pub finish_unless : Option FinishRefusal → Header → Result ℕ (FinishRefusal × Header)
@@ -116,12 +116,6 @@ send_unless None h = Ok (row_count h.fl)
 
 abbrev pub send_answer : Header → List ℕ → List ℕ → ℕ → Result ℕ SendRefusal
 send_answer h reference bytes room = send_unless (send_refusal h reference (length bytes) room) h
-
--- What holds where send is not refused.
-abbrev pub CanSend : Option SendRefusal → Header → List ℕ → ℕ → ℕ → Type 0
-CanSend (Some e) h reference count room = Unit {0}
-CanSend None h reference count room =
-    (is_legal h ≡ true) × ((count ≡ payload h) × ((is_reference reference ≡ true) × (frame_cells h ≤ room)))
 
 -- The cells of a frame as they are sent.
 abbrev pub sent : Header → List ℕ → List ℕ → List ℕ

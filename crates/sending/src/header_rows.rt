@@ -1,35 +1,41 @@
 //! Writing the header's rows of a frame.
-ghost use Rattle.std.specs.Prelude.{◌≡◌, ℕ, ◌≤◌, true, ◌++◌, length, drop};
-ghost use Rattle.rows.specs.Carriers.{is_reference};
-ghost use Rattle.rows.specs.Rows.{header_cells};
+ghost use Rattle.std.specs.Prelude.{◌≡◌, ℕ, ◌≤◌, ◌++◌, length, drop, false, MatchResult};
+ghost use Rattle.rows.specs.Carriers.{is_reference, row_at};
+ghost use Rattle.rows.specs.Rows.{header_cells, last_header_row};
 ghost use Rattle.sending.specs.Sendings.{header_part};
 
+use crate::begun::Begun;
 use chains::code_header;
-use frame::Header;
 use packing::header_bits;
+use rows::{CARRIERS, HEADER_CELLS, NotReference, Reference};
 use stage::buffers::copy_front;
 
-/// The header's rows have this many cells.
-pub(crate) const HEADER_CELLS: usize = 468;
+impl Begun {
+    /// The cells of the header's rows under a reference.
+    fn header_cells(&self, reference: &Reference) -> [u8; HEADER_CELLS]
+        ensures { result ≡ header_part self.now.header reference.now.cells }
+    {
+        let bits = header_bits(self.header);
+        let mut work = [0u8; HEADER_CELLS];
+        let mut cells = [0u8; HEADER_CELLS];
+        let _ = code_header(reference.cells(), &bits, &mut work, &mut cells);
+        cells
+    }
 
-/// The cells of the header's rows under a reference.
-fn header_cells(header: Header, reference: &[u8]) -> [u8; 468]
-    requires { is_reference reference.now ≡ true }
-    ensures { result ≡ header_part header reference.now }
-{
-    let bits = header_bits(header);
-    let mut work = [0u8; 468];
-    let mut cells = [0u8; 468];
-    let _ = code_header(reference, &bits, &mut work, &mut cells);
-    cells
+    /// Writes the header's rows to the front of a buffer; the rest is as it was.
+    pub(crate) fn write_header(&self, reference: &Reference, cells: &mut [u8])
+        requires { header_cells ≤ length cells.old }
+        ensures { cells.new ≡ header_part self.now.header reference.now.cells ++ drop header_cells cells.old }
+    {
+        let rows = self.header_cells(reference);
+        copy_front(HEADER_CELLS, &rows, cells);
+    }
 }
 
-/// Writes the header's rows to the front of a buffer; the rest is as it was.
-pub(crate) fn write_header(header: Header, reference: &[u8], cells: &mut [u8])
-    requires reference { is_reference reference.now ≡ true }
-    requires room { header_cells ≤ length cells.old }
-    ensures { cells.new ≡ header_part header reference.now ++ drop header_cells cells.old }
+/// The last header row in a buffer, from which the payload's phases go on.
+pub(crate) fn last_header_row(cells: &[u8]) -> Result<Reference, NotReference>
+    requires { header_cells ≤ length cells.now }
+    ensures { MatchResult result (λ row. row.cells ≡ row_at last_header_row cells.now) (λ _. is_reference (row_at last_header_row cells.now) ≡ false) }
 {
-    let rows = header_cells(header, reference);
-    copy_front(HEADER_CELLS, &rows, cells);
+    Reference::try_from(&cells[HEADER_CELLS - CARRIERS..HEADER_CELLS])
 }

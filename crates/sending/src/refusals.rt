@@ -66,7 +66,7 @@ impl From<BeginRefusal> for SendRefusal {
 }
 
 impl BeginRefusal {
-    /// The refusal's number: 1 to 5, 8 or 7.
+    /// The number under which the refusal is known to hosts: 1 to 5, 8 or 7.
     pub fn number(self) -> u32
         ensures { result ≡ begin_number self }
     {
@@ -79,7 +79,7 @@ impl BeginRefusal {
 }
 
 impl FinishRefusal {
-    /// The refusal's number: 6, 7 or 8.
+    /// The number under which the refusal is known to hosts: 6, 7 or 8.
     pub fn number(self) -> u32
         ensures { result ≡ finish_number self }
     {
@@ -92,7 +92,7 @@ impl FinishRefusal {
 }
 
 impl SendRefusal {
-    /// The refusal's number: 1 to 5, 8, 7 or 6.
+    /// The number under which the refusal is known to hosts: 1 to 5, 8, 7 or 6.
     pub fn number(self) -> u32
         ensures { result ≡ send_number self }
     {

@@ -1,46 +1,33 @@
 //! Begin, finish and send.
-ghost use Rattle.std.specs.Prelude.{◌≡◌, ℕ, ◌*◌, true, ◌++◌, length, drop, None};
-ghost use Rattle.frame.specs.Answers.{payload, size_answer};
-ghost use Rattle.frame.specs.Sizes.{row_count};
-ghost use Rattle.sending.specs.Begun.{is_legal};
+ghost use Rattle.std.specs.Prelude.{◌≡◌, ℕ, ◌≤◌, ◌++◌, length, drop};
+ghost use Rattle.frame.specs.Answers.{payload};
 ghost use Rattle.sending.specs.Laws.{HoldsFrame, Sent};
-ghost use Rattle.sending.specs.Sendings.{CanBegin, CanFinish, CanSend, begin_answer, begin_buffer, begin_refusal, begun_told, finish_answer, finish_buffer, finish_refusal, finish_told, frame_cells, send_answer, send_buffer, send_refusal, sent};
+ghost use Rattle.sending.specs.Sendings.{CanBegin, CanFinish, begin_answer, begin_buffer, begun_told, finish_answer, finish_buffer, finish_told, frame_cells, send_answer, send_buffer, sent};
 
 use crate::begun::Begun;
-use crate::header_rows::{HEADER_CELLS, write_header};
-use crate::payload_rows::write_payload;
+use crate::header_rows::last_header_row;
 use crate::refusals::{BeginRefusal, FinishRefusal, SendRefusal, Unfinished};
-use frame::{Header, size};
-use rows::{CARRIERS, is_reference};
+use frame::Header;
+use rows::{CARRIERS, Reference};
 
-/// The payload's length and the row count of a legal header.
-fn legal_size(header: Header) -> (usize, usize)
-    requires { is_legal header ≡ true }
-    ensures { result ≡ (payload header, row_count header.fl) }
+/// A frame that can be begun with this header and reference in a buffer of so many cells, and the
+/// reference.
+fn beginning(
+    header: Header,
+    reference: &[u8],
+    room: usize,
+) -> Result<(Begun, Reference), BeginRefusal>
+    ensures { CanBegin result header reference.now room }
 {
-    match size(header) {
-        Ok(sizes) => sizes,
-        Err(_) => (0, 0),
+    let begun = Begun::of(header)?;
+    let Ok(reference) = Reference::try_from(reference) else {
+        return Err(BeginRefusal::Reference);
+    };
+    let (_, rows) = begun.size();
+    if room < CARRIERS * rows {
+        return Err(BeginRefusal::TooShort);
     }
-}
-
-/// Why a frame cannot be begun with this header and reference in a buffer of so many cells.
-fn begin_refusal(header: Header, reference: &[u8], room: usize) -> Option<BeginRefusal>
-    ensures value { result ≡ begin_refusal header reference.now room }
-    ensures fit { CanBegin result header reference.now room }
-{
-    match size(header) {
-        Err(refusal) => Some(BeginRefusal::Header(refusal)),
-        Ok((_, rows)) => {
-            if !is_reference(reference) {
-                Some(BeginRefusal::Reference)
-            } else if room < CARRIERS * rows {
-                Some(BeginRefusal::TooShort)
-            } else {
-                None
-            }
-        }
-    }
+    Ok((begun, reference))
 }
 
 /// Begins a frame: writes the header's 13 rows under a reference row to the front of `cells`, and
@@ -53,30 +40,42 @@ pub fn begin(header: Header, reference: &[u8], cells: &mut [u8]) -> Result<Begun
     ensures answer { begun_told result ≡ begin_answer header reference.now (length cells.old) }
     ensures buffer { cells.new ≡ begin_buffer header reference.now (begun_told result) cells.old }
 {
-    if let Some(refusal) = begin_refusal(header, reference, cells.len()) {
-        return Err(refusal);
-    }
-    write_header(header, reference, cells);
-    Ok(Begun { header })
+    let (begun, reference) = beginning(header, reference, cells.len())?;
+    begun.write_header(&reference, cells);
+    Ok(begun)
 }
 
-/// Why a begun frame cannot be finished with a payload of so many bytes in this buffer.
-fn finish_refusal(header: Header, count: usize, cells: &[u8]) -> Option<FinishRefusal>
-    requires { is_legal header ≡ true }
-    ensures value { result ≡ finish_refusal header count cells.now }
-    ensures fit { CanFinish result header count cells.now }
-{
-    let (length, rows) = legal_size(header);
-    if count != length {
-        return Some(FinishRefusal::PayloadLength);
+impl Begun {
+    /// The last header row of a buffer in which the frame can be finished with so many bytes.
+    fn finishing(&self, count: usize, cells: &[u8]) -> Result<Reference, FinishRefusal>
+        ensures { CanFinish result self.now.header count cells.now }
+    {
+        let (length, rows) = self.size();
+        if count != length {
+            return Err(FinishRefusal::PayloadLength);
+        }
+        if cells.len() < CARRIERS * rows {
+            return Err(FinishRefusal::TooShort);
+        }
+        let Ok(row) = last_header_row(cells) else {
+            return Err(FinishRefusal::Reference);
+        };
+        Ok(row)
     }
-    if cells.len() < CARRIERS * rows {
-        return Some(FinishRefusal::TooShort);
+
+    /// Writes a whole frame.
+    fn write_frame(&self, reference: &Reference, bytes: &[u8], cells: &mut [u8])
+        requires exactly { length bytes.now ≡ payload self.now.header }
+        requires room { frame_cells self.now.header ≤ length cells.old }
+        ensures buffer { cells.new ≡ sent self.now.header reference.now.cells bytes.now ++ drop (frame_cells self.now.header) cells.old }
+        ensures law { HoldsFrame reference.now.cells self.now.header bytes.now cells.old cells.new }
+    {
+        self.write_header(reference, cells);
+        let Ok(row) = last_header_row(cells) else {
+            unreachable()
+        };
+        self.write_payload(&row, bytes, cells);
     }
-    if !is_reference(&cells[HEADER_CELLS - CARRIERS..HEADER_CELLS]) {
-        return Some(FinishRefusal::Reference);
-    }
-    None
 }
 
 /// Finishes a begun frame: writes the payload's rows behind the header's, from the last header row in
@@ -90,41 +89,14 @@ pub fn finish(begun: Begun, bytes: &[u8], cells: &mut [u8]) -> Result<usize, Unf
     ensures answer { finish_told result ≡ finish_answer begun.header bytes.now cells.old }
     ensures buffer { cells.new ≡ finish_buffer begun.header bytes.now (finish_told result) cells.old }
 {
-    let header = begun.header;
-    if let Some(why) = finish_refusal(header, bytes.len(), cells) {
-        return Err(Unfinished { why, begun });
+    match begun.finishing(bytes.len(), cells) {
+        Ok(row) => {
+            begun.write_payload(&row, bytes, cells);
+            let (_, rows) = begun.size();
+            Ok(rows)
+        }
+        Err(why) => Err(Unfinished { why, begun }),
     }
-    write_payload(header, bytes, cells);
-    let (_, rows) = legal_size(header);
-    Ok(rows)
-}
-
-/// Why a frame cannot be sent with this header, reference and count of bytes in so many cells.
-fn send_refusal(header: Header, reference: &[u8], count: usize, room: usize) -> Option<SendRefusal>
-    ensures value { result ≡ send_refusal header reference.now count room }
-    ensures fit { CanSend result header reference.now count room }
-{
-    if let Some(refusal) = begin_refusal(header, reference, room) {
-        return Some(SendRefusal::Begin(refusal));
-    }
-    let (length, _) = legal_size(header);
-    if count != length {
-        return Some(SendRefusal::PayloadLength);
-    }
-    None
-}
-
-/// Writes a whole frame that can be sent; answers how many rows it has.
-fn write_frame(header: Header, reference: &[u8], bytes: &[u8], cells: &mut [u8]) -> usize
-    requires fit { CanSend None header reference.now (length bytes.now) (length cells.old) }
-    ensures value { result ≡ row_count header.fl }
-    ensures buffer { cells.new ≡ sent header reference.now bytes.now ++ drop (frame_cells header) cells.old }
-    ensures law { HoldsFrame reference.now header bytes.now cells.old cells.new }
-{
-    write_header(header, reference, cells);
-    write_payload(header, bytes, cells);
-    let (_, rows) = legal_size(header);
-    rows
 }
 
 /// Sends a frame: begins it and finishes it in one buffer; answers how many rows it has.
@@ -144,8 +116,11 @@ pub fn send(
     ensures buffer { cells.new ≡ send_buffer header reference.now bytes.now result cells.old }
     ensures law { Sent reference.now header bytes.now result cells.old cells.new }
 {
-    if let Some(refusal) = send_refusal(header, reference, bytes.len(), cells.len()) {
-        return Err(refusal);
+    let (begun, reference) = beginning(header, reference, cells.len())?;
+    let (length, rows) = begun.size();
+    if bytes.len() != length {
+        return Err(SendRefusal::PayloadLength);
     }
-    Ok(write_frame(header, reference, bytes, cells))
+    begun.write_frame(&reference, bytes, cells);
+    Ok(rows)
 }

@@ -1,5 +1,3 @@
 -- Lemmas of the stage crate.
 pub mod Misfits
 pub mod Calling
-pub mod Differences
-pub mod Plains

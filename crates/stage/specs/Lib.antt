@@ -12,3 +12,8 @@ pub mod Lists
 pub mod PilePromise
 pub mod Rooms
 pub mod Decodings
+pub mod Differences
+pub mod Plains
+pub mod Agreement
+pub mod AgreementLaws
+pub mod Searches

@@ -1,9 +1,10 @@
 -- Alphabets, fronts of buffers, and answers that may be missing.
-use Rattle.std.specs.Prelude.{◌≡◌, ℕ, zero, suc, ◌+◌, ◌<◌, ◌≤◌, true, false, ◌&&◌, List, [], ◌∷◌, length, drop, is_some, Some, None, Option, nat_le, slice_index, refl}
+use Rattle.std.specs.Prelude.{◌≡◌, ℕ, zero, suc, ◌+◌, ◌<◌, ◌≤◌, true, false, ◌&&◌, List, [], ◌∷◌, length, drop, Bool, not, is_some, Some, None, Option, nat_le, slice_index, refl}
 use Rattle.std.proofs.Common.{sym, ap, ◌∙◌, arith}
 use Rattle.std.proofs.lemmas.List.{at_drop_more, at_drop_all, ext_get_or}
 use Rattle.std.proofs.lemmas.Bool.{and_parts, and_from, leb-true, le-leb, lt-leb}
 use Rattle.stage.specs.Plain.{within}
+use Rattle.stage.specs.Searches.{FirstAbove}
 
 -- an answer that is there has a value
 pub value_of_some : (o : Option ℕ) → is_some o ≡ true → (k : ℕ) × (o ≡ Some k)
@@ -56,3 +57,14 @@ within_ends high xs i l inv = sym (at_drop_all (within high) xs i l) ∙ inv
 -- two lists of one length are equal if they agree at each place
 pub same_by_places : (xs ys : List ℕ) → length xs ≡ length ys → ((i : ℕ) → i < length xs → slice_index xs i ≡ slice_index ys i) → xs ≡ ys
 same_by_places xs ys l h = ext_get_or 0 xs ys l h
+
+-- a list is within an alphabet exactly if no element is above its highest
+pub none_above : (high : ℕ) (xs : List ℕ) (place : Option ℕ) (none : Bool) → FirstAbove high xs place → is_some place ≡ not none → none ≡ within high xs
+none_above high xs None true h e = sym (within_from high xs h)
+none_above high xs None false h e = let z : ◌≡◌ {A = ℕ} 0 1 = cc in absurd (omega arith)
+none_above high xs (Some k) true h e = let z : ◌≡◌ {A = ℕ} 0 1 = cc in absurd (omega arith)
+none_above high xs (Some k) false h e = of (within high xs) refl
+  where
+    of : (b : Bool) → within high xs ≡ b → false ≡ b
+    of false s = refl
+    of true s = absurd (omega (arith, h.0, h.2, within_at high xs k s))

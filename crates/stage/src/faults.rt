@@ -7,6 +7,7 @@ ghost use Rattle.stage.specs.Faults.{at_the_line, deeper_by, refused_for, number
 /// The fault of one plain stage: which stage, and how far the received list was right.
 #[derive(Clone, Copy, PartialEq, Eq, Debug)]
 pub struct StageFault {
+    // A number and no enum: whoever writes a stage brings a number of their own.
     /// The number of the stage that refused.
     pub number: u8,
     /// The length of the longest front part that the list shares with some coding of its

@@ -12,7 +12,8 @@ use crate::outline::{Outline, Span};
 /// A coding stage: a plain one, or a pile of two.
 ///
 /// The ghost `model` is what the stage means; the law is the promise that its author shows.
-/// An author writes the first five methods; `code` and `decode` are the same for all.
+/// `code` and `decode` are the same for all. Whoever writes a plain stage implements
+/// [`PlainStage`](crate::PlainStage), and the other five methods are there too.
 pub trait Stage {
     ghost model: { Self → Model };
 
@@ -28,6 +29,7 @@ pub trait Stage {
     fn decoded_span(&self, length: usize) -> Span
         ensures { result ≡ decode_span (model self.now) length };
 
+    // A length beside a buffer: no heap is asked for, so the list grows into the rest of a lent buffer.
     /// Codes the first `n` elements of `res` in place and answers the coding's length.
     ///
     /// Both buffers have the room for it. `work`, and `res` behind the coding, are working
@@ -50,6 +52,7 @@ pub trait Stage {
         requires result_room { decode_room (model self.now) n ≤ length res.old }
         ensures { Leaves (decoding (model self.now) (take n res.old)) result res.new };
 
+    // Two buffers and no struct: they are lent from two places, and would only be taken apart again.
     /// Puts the coding of `list` at the front of `res` and answers its length.
     ///
     /// Refuses, in this order, with `Misfit` where the members do not fit, with `Illegal` where

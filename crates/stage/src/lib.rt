@@ -11,8 +11,10 @@ pub mod faults;
 pub mod interface;
 pub mod outline;
 pub mod piles;
+pub mod plains;
 
 pub use faults::{ChainFault, Refusal, StageFault};
 pub use interface::Stage;
 pub use outline::{Outline, Span};
 pub use piles::{Pile, pile_keeps_the_promise};
+pub use plains::PlainStage;

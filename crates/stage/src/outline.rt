@@ -10,8 +10,10 @@ pub struct Outline {
     pub takes: u8,
     /// The highest element that it puts out.
     pub puts: u8,
+    // A number for too many: pilers add counts up, and a count that stops adds up as one that goes on.
     /// How many plain stages it is made of; 65,536 stands for any count above 65,535.
     pub members: u32,
+    // A flag: what members that do not fit take, put out and count is told too.
     /// Whether the members fit; a plain stage always does.
     pub fit: bool,
 }

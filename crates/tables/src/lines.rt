@@ -6,8 +6,9 @@ use crate::columns::{push_length, push_number};
 use frame::{Header, largest, smallest};
 use std::alloc::{AllocError, Global};
 
+// Two numbers, and no enum or struct: a modulation that is none has a line too, and callers ask by both.
 /// Appends MOD, the smallest legal FL and its N, the largest legal FL and its N.
-fn push_lengths(heap: Global, line: &mut String, tm: u32, modulation: u32) -> Result<(), AllocError>
+fn push_lengths(line: &mut String, tm: u32, modulation: u32) -> Result<(), AllocError>
     ensures { OnOk result (With_lengths tm modulation (string_bytes line.old) (string_bytes line.new)) }
 {
     let header = Header {
@@ -17,9 +18,9 @@ fn push_lengths(heap: Global, line: &mut String, tm: u32, modulation: u32) -> Re
         tm,
         dt: 0,
     };
-    push_number(heap, line, modulation as usize)?;
-    push_length(heap, line, smallest(header))?;
-    push_length(heap, line, largest(header))?;
+    push_number(line, modulation as usize)?;
+    push_length(line, smallest(header))?;
+    push_length(line, largest(header))?;
     Ok(())
 }
 
@@ -31,7 +32,7 @@ pub fn certificate_line(heap: Global, tm: u32, modulation: u32) -> Result<String
     ensures { IfOk result (λ s. Certificate_line tm modulation (string_bytes s)) }
 {
     let mut columns = String::new(heap);
-    push_lengths(heap, &mut columns, tm, modulation)?;
+    push_lengths(&mut columns, tm, modulation)?;
     Ok(columns)
 }
 
@@ -42,7 +43,7 @@ pub fn tone_map_line(heap: Global, tm: u32, modulation: u32) -> Result<String, A
     ensures { IfOk result (λ s. Tone_map_line tm modulation (string_bytes s)) }
 {
     let mut line = String::new(heap);
-    push_number(heap, &mut line, tm as usize)?;
-    push_lengths(heap, &mut line, tm, modulation)?;
+    push_number(&mut line, tm as usize)?;
+    push_lengths(&mut line, tm, modulation)?;
     Ok(line)
 }

@@ -1,6 +1,2 @@
-pub mod CellLaws
-pub mod HexLaws
 pub mod LiveLaws
-pub mod NumberLaws
 pub mod PackLaws
-pub mod WordLaws

@@ -1,5 +1,5 @@
 -- The chains of a frame as stages: what their calls are answered.
-use Rattle.std.specs.Prelude.{ℕ, cond, List, Some, None, Ok, Err, codes, Option, Result}
+use Rattle.std.specs.Prelude.{ℕ, cond, List, Some, None, Ok, Err, Option, Result}
 use Rattle.chains.specs.Calls.{made_header_chain, made_payload_chain}
 use Rattle.chains.specs.declared.refusals.ChainRefusal.{ChainRefusal}
 use Rattle.chains.specs.declared.refusals.ChainRefusal.TheVariants.{Header as BadHeader, Reference}
@@ -7,14 +7,13 @@ use Rattle.chains.specs.Refusals.{number_of}
 use Rattle.frame.specs.Answers.{size_answer}
 use Rattle.frame.specs.declared.headers.Header.{Header}
 use Rattle.frame.specs.declared.refusals.Refusal.{Refusal}
-use Rattle.talk.specs.Calls.{read_number, then_read}
-use Rattle.talk.specs.Cells.{read_cells}
-use Rattle.talk.specs.declared.requests.Direction.{Direction}
-use Rattle.talk.specs.Requests.{Asked, answer_to, read_request, stage_text}
-use Rattle.talk.specs.Texts.{refused_text}
+use Rattle.wording.specs.Calls.{read_number, then_read}
+use Rattle.wording.specs.Cells.{read_cells}
+use Rattle.wording.specs.declared.requests.Direction.{Direction}
+use Rattle.wording.specs.Requests.{Asked, answer_to, read_request, stage_text}
+use Rattle.wording.specs.Texts.{refused_text}
 use Rattle.rows.specs.Carriers.{gathered, is_reference}
 use Rattle.stage.specs.Model.{Model}
-use Rattle.std.specs.Str.{bytes_eq}
 
 -- `header CELLS`: the header chain over a reference row.
 abbrev pub header_reply : Direction → List (List ℕ) → Option (List ℕ)
@@ -54,9 +53,3 @@ payload_reply d ws =
     (λ mo ws1. then_read (read_number ws1)
     (λ fl ws2. then_read (read_number ws2)
     (λ tm ws3. row_reply (setting mo fl tm) d ws3)))
-
--- What the calls of a chain are answered, by its name and the words behind it.
-abbrev pub chain_reply : Direction → List ℕ → List (List ℕ) → Option (List ℕ)
-chain_reply d name ws =
-    cond (bytes_eq name (codes "header")) (header_reply d ws)
-    (cond (bytes_eq name (codes "payload")) (payload_reply d ws) None)

@@ -1,12 +1,4 @@
-pub mod Calls
-pub mod Cells
 pub mod ChainStages
-pub mod Hexes
-pub mod Lasts
-pub mod Numbers
 pub mod Packs
 pub mod Replies
-pub mod Requests
 pub mod Stages
-pub mod Texts
-pub mod Words

@@ -5,10 +5,10 @@ use Rattle.packing.specs.declared.refusals.PackRefusal.{PackRefusal}
 use Rattle.packing.specs.declared.refusals.UnpackRefusal.{UnpackRefusal}
 use Rattle.packing.specs.declared.refusals.UnpackRefusal.TheVariants.{NotFiveBytes, Fault, Header as BadHeader}
 use Rattle.packing.specs.Packings.{pack_answer, pack_number, packed, unpack_answer, unpack_number}
-use Rattle.talk.specs.Calls.{at_end, read_header, read_number, then_read}
-use Rattle.talk.specs.Hexes.{hex_of}
-use Rattle.talk.specs.Lasts.{last_list}
-use Rattle.talk.specs.Texts.{refused_text, served, with_chain_fault, with_header}
+use Rattle.wording.specs.Calls.{read_header, then_read}
+use Rattle.wording.specs.Hexes.{hex_of}
+use Rattle.wording.specs.Lasts.{last_list, last_room}
+use Rattle.wording.specs.Texts.{refused_text, with_chain_fault, with_header}
 use Rattle.std.specs.Option.{option_map}
 
 -- The bytes that a header packs to, under a name that proofs open only where they have to.
@@ -30,8 +30,7 @@ packed_text h (Err e) = refused_text (pack_number e)
 abbrev pub pack_reply : List (List ℕ) → Option (List ℕ)
 pack_reply ws =
     then_read (read_header ws)
-    (λ h ws1. then_read (read_number ws1)
-    (λ room rest. at_end (packed_text h (pack_answer h (served room))) rest))
+    (λ h ws1. option_map (λ room. packed_text h (pack_answer h room)) (last_room ws1))
 
 -- A text with the fault behind it, if the refusal has one.
 abbrev pub with_check_fault : List ℕ → UnpackRefusal → List ℕ

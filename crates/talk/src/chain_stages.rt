@@ -2,25 +2,21 @@
 ghost use Rattle.std.specs.Prelude.{◌≡◌, true, IfOk, vec_items};
 ghost use Rattle.chains.specs.Calls.{made_payload_chain};
 ghost use Rattle.chains.specs.Meanings.{of_payload_chain};
-ghost use Rattle.talk.specs.ChainStages.{chain_answer, chain_reply, header_reply, payload_behind, payload_reply, row_reply};
-ghost use Rattle.talk.specs.Requests.{read_request};
-ghost use Rattle.talk.specs.Words.{unread};
+ghost use Rattle.talk.specs.ChainStages.{chain_answer, header_reply, payload_behind, payload_reply, row_reply};
+ghost use Rattle.wording.specs.Requests.{read_request};
+ghost use Rattle.wording.specs.Words.{unread};
 ghost use Rattle.rows.specs.Carriers.{gathered, is_reference};
 ghost use Rattle.std.specs.Option.{option_map};
 ghost use Rattle.std.specs.Result.{result_map_both as mapped_both};
 
-use crate::buffers::front;
-use crate::calls::same_word;
-use crate::requests::{Direction, answer_to, call_text};
-use crate::texts::refused_text;
-use crate::words::Words;
 use chains::{ChainRefusal, HeaderChain, PayloadChain};
 use frame::{Header, size};
 use rows::{CARRIERS, gather, is_reference};
 use std::alloc::{AllocError, Global};
+use wording::{Direction, Words, answer_to, call_text, front, refused_text};
 
 /// `header CELLS`.
-fn header_reply(
+pub fn header_reply(
     heap: Global,
     words: &mut Words<'_>,
     direction: Direction,
@@ -57,6 +53,7 @@ fn payload_behind(header: Header, row: &[u8]) -> Result<PayloadChain, ChainRefus
     live_chain(header, row)
 }
 
+// Not `answer_to`: a chain is refused by its number alone, and a text for each refusal would be a parameter.
 /// Reads what is asked of a payload chain, which its settings made or did not, and gives the text of
 /// the answer; none if it cannot be read.
 fn chain_answer(
@@ -103,7 +100,7 @@ fn row_reply(
 }
 
 /// `payload MOD FL TM CELLS`.
-fn payload_reply(
+pub fn payload_reply(
     heap: Global,
     words: &mut Words<'_>,
     direction: Direction,
@@ -127,23 +124,4 @@ fn payload_reply(
         dt: 0,
     };
     row_reply(heap, words, direction, header)
-}
-
-/// Reads the settings of the chain with this name and what is asked of it, and gives the text of the
-/// answer; none if it cannot be read.
-pub fn chain_reply(
-    heap: Global,
-    words: &mut Words<'_>,
-    direction: Direction,
-    name: &[u8],
-) -> Result<Option<Vec<u8>>, AllocError>
-    ensures { IfOk result (λ o. option_map vec_items o ≡ chain_reply direction name.now (unread words.old)) }
-{
-    if same_word(name, b"header") {
-        header_reply(heap, words, direction)
-    } else if same_word(name, b"payload") {
-        payload_reply(heap, words, direction)
-    } else {
-        Ok(None)
-    }
 }

@@ -1,19 +1,17 @@
 //! The calls `pack` and `unpack`.
 ghost use Rattle.std.specs.Prelude.{◌≡◌, ◌++◌, length, IfOk, vec_items, codes, OnOk};
 ghost use Rattle.packing.specs.Packings.{pack_answer, unpack_answer};
-ghost use Rattle.talk.specs.Hexes.{hex_of};
+ghost use Rattle.wording.specs.Hexes.{hex_of};
 ghost use Rattle.talk.specs.Packs.{Leaves, pack_reply, packed_text, unpack_reply, unpacked_text, with_check_fault};
-ghost use Rattle.talk.specs.Words.{unread};
+ghost use Rattle.wording.specs.Words.{unread};
 ghost use Rattle.std.specs.Option.{option_map};
 
-use crate::buffers::front;
-use crate::hexes::append_hex;
-use crate::requests::served;
-use crate::texts::{append_chain_fault, append_header, refused_text, word_text};
-use crate::words::Words;
 use frame::Header;
 use packing::{PackRefusal, UnpackRefusal, pack, unpack};
 use std::alloc::{AllocError, Global};
+use wording::{
+    Words, append_chain_fault, append_header, append_hex, front, refused_text, word_text,
+};
 
 /// Packs a header to the front of a buffer.
 fn pack_front(header: Header, out: &mut [u8]) -> Result<usize, PackRefusal>
@@ -57,13 +55,10 @@ pub fn pack_reply(heap: Global, words: &mut Words<'_>) -> Result<Option<Vec<u8>>
     let Some(header) = words.header() else {
         return Ok(None);
     };
-    let Some(room) = words.number() else {
+    let Some(room) = words.last_room() else {
         return Ok(None);
     };
-    if words.next_word().is_some() {
-        return Ok(None);
-    }
-    let text = pack_text(heap, header, served(room))?;
+    let text = pack_text(heap, header, room)?;
     Ok(Some(text))
 }
 

@@ -37,7 +37,7 @@ impl super::Kept {
         self.rows
     }
 
-    /// Keeps one row more, behind the others.
+    /// Keeps one row more, behind the others. One of the header's is of phases.
     pub fn append(&mut self, row: &[u8])
         requires room { rows_kept self.old < most_rows }
         requires long { length row.now ≡ carriers }
@@ -48,27 +48,6 @@ impl super::Kept {
         let place = CARRIERS * self.rows;
         self.cells[place..place + CARRIERS].copy_from_slice(row);
         self.rows += 1;
-    }
-
-    /// Keeps a header row.
-    pub fn append_header_row(&mut self, row: &[u8])
-        requires room { rows_kept self.old < header_rows }
-        requires refers { is_reference row.now ≡ true }
-        ensures rows { rows_kept self.new ≡ rows_kept self.old + 1 }
-        ensures cells { kept self.new ≡ kept self.old ++ row.now }
-    {
-        self.append(row);
-    }
-
-    /// Keeps a row behind the header's.
-    pub fn append_payload_row(&mut self, row: &[u8])
-        requires header { header_rows ≤ rows_kept self.old }
-        requires room { rows_kept self.old < most_rows }
-        requires long { length row.now ≡ carriers }
-        ensures rows { rows_kept self.new ≡ rows_kept self.old + 1 }
-        ensures cells { kept self.new ≡ kept self.old ++ row.now }
-    {
-        self.append(row);
     }
 
     /// The cells of all rows.

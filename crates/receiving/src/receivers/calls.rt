@@ -3,13 +3,12 @@ ghost use Rattle.std.specs.Prelude.{◌≡◌, length};
 ghost use Rattle.receiving.specs.Receivers.{view};
 ghost use Rattle.receiving.specs.Steps.{fed, fresh, start_answer, started, take_buffer, take_told, taken};
 
-use crate::buffers::{copy_reference, put_front};
 use crate::kept::Kept;
 use crate::refusals::{FeedRefusal, StartRefusal, TakeRefusal};
 use crate::sizes::MOST_BYTES;
 use crate::states::Phase;
 use frame::Header;
-use rows::{CARRIERS, is_reference, row_fits};
+use rows::{Reference, row_fits};
 
 impl super::Receiver {
     /// A receiver that does not listen.
@@ -18,7 +17,6 @@ impl super::Receiver {
     {
         super::Receiver {
             phase: Phase::Deaf,
-            reference: [0; CARRIERS],
             kept: Kept::new(),
             bytes: [0; MOST_BYTES],
         }
@@ -32,12 +30,11 @@ impl super::Receiver {
         ensures value { result ≡ start_answer reference.now }
         ensures after { view self.new ≡ started (view self.old) reference.now }
     {
-        if !is_reference(reference) {
+        let Ok(reference) = Reference::try_from(reference) else {
             return Err(StartRefusal::Reference);
-        }
-        copy_reference(reference, &mut self.reference);
+        };
         self.kept.clear();
-        self.phase = Phase::Heading;
+        self.phase = Phase::Heading(reference);
         Ok(())
     }
 
@@ -48,17 +45,17 @@ impl super::Receiver {
     {
         match self.phase {
             Phase::Deaf | Phase::Whole(_, _) => Err(FeedRefusal::NotListening),
-            Phase::Heading => {
-                if !is_reference(row) {
+            Phase::Heading(reference) => {
+                let Ok(row) = Reference::try_from(row) else {
                     return Err(FeedRefusal::Row);
-                }
-                self.hear_header_row(row)
+                };
+                self.hear_header_row(&reference, &row)
             }
-            Phase::Loading(header) => {
-                if !row_fits(header.tm, row) {
+            Phase::Loading(legal) => {
+                if !row_fits(legal.header.tm, row) {
                     return Err(FeedRefusal::Row);
                 }
-                self.hear_payload_row(header, row)
+                self.hear_payload_row(legal, row)
             }
         }
     }
@@ -75,7 +72,7 @@ impl super::Receiver {
         if out.len() < length {
             return Err(TakeRefusal::TooShort);
         }
-        put_front(length, &self.bytes, out);
+        out[..length].copy_from_slice(&self.bytes[..length]);
         self.phase = Phase::Deaf;
         Ok((header, length))
     }

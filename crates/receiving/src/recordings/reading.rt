@@ -7,7 +7,7 @@ use crate::recordings::{RecordRefusal, RecordedRow};
 use rows::CARRIERS;
 
 impl RecordRefusal {
-    /// The number under which the refusal is known.
+    /// The number under which the refusal is known to hosts.
     pub fn number(self) -> u32
         ensures { result ≡ record_number self }
     {

@@ -1,7 +1,7 @@
 -- The rows read so far have been added; each turn reads one more.
 use Rattle.std.proofs.Common.{◌≡◌, ◌-◌, ◌*◌, length, vec_items}
 use Rattle.desk.specs.Records.{count_text}
-use Rattle.talk.specs.Cells.{with_rows}
+use Rattle.wording.specs.Cells.{with_rows}
 use Rattle.receiving.specs.Recordings.{recorded, rows_read}
 use Rattle.desk.proofs.records.record_text.Given as goal
 

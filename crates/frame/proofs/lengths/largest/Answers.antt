@@ -1,18 +1,25 @@
-use Rattle.std.proofs.Common.{arith}
-use Rattle.frame.proofs.Extremes.{most_where_none_above, none_above_one_less, none_at_all}
-use Rattle.frame.proofs.Legality.{refused_is_not_legal, sized_is_legal}
+use Rattle.std.proofs.Common.{ap, ◌∙◌, arith}
+use Rattle.std.specs.Range.{range_inclusive_end, range_inclusive_exhausted, range_inclusive_start}
+use Rattle.std.proofs.iter.runs.Sources.{inclusive_listed_back}
+use Rattle.frame.proofs.Extremes.{largest_downward}
 use Rattle.frame.proofs.lengths.largest.Goals as goal
 
-pub returns-in-Ok : goal.returns-in-Ok
-returns-in-Ok c =
-    (sized_is_legal _ _ _ _ c.with_fl.ensures c.in-Ok.ensures, most_where_none_above _ _ c.loop-fl.invariant)
-
-pub loop-fl-preserved : goal.loop-fl-preserved
-loop-fl-preserved c =
-    none_above_one_less _ _ c.loop-fl.invariant
-    (refused_is_not_legal _ _ _ c.with_fl.ensures c.in_default.ensures)
-
-pub returns-in_default : goal.returns-in_default
-returns-in_default c =
-    none_at_all _ _ (omega arith) c.loop-fl.invariant
-    (refused_is_not_legal _ _ _ c.with_fl.ensures c.in_default.ensures)
+pub returns : goal.returns
+returns c =
+    let run = c.first_legal.ensures in
+    let source = c.rev.ensures.runs run.0 run.0.seen run.1 in
+    let count = inclusive_listed_back source.0 source.0.seen in
+    largest_downward
+    run.0
+    source.0
+    c.args.header
+    c.first_legal.result
+    count.0
+    count.1
+    (omega (arith, count.2, ap range_inclusive_start source.1))
+    (omega (arith, count.3, ap range_inclusive_end source.1))
+    source.2.0.0
+    source.2.0.2
+    source.2.1
+    (count.4 (ap range_inclusive_exhausted source.1 ∙ c.new.ensures.exhausted)).0
+    run.2

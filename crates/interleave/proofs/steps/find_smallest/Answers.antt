@@ -1,14 +1,11 @@
-use Rattle.std.proofs.Common.{◌+◌, sym, ◌∙◌, arith}
-use Rattle.interleave.specs.SearchLaws.{search_more, search_here}
+use Rattle.std.proofs.Common.{rules, tests, ◌≡◌, true, false, ◌∙◌}
+use Rattle.std.proofs.lemmas.Iterator.{first_from_Range}
+use Rattle.interleave.specs.Factors.{are_apart}
+use Rattle.interleave.specs.SearchLaws.{searched}
 use Rattle.interleave.proofs.steps.find_smallest.Goals as goal
 
-pub returns-then-have_none_in_common : goal.returns-then-have_none_in_common
-returns-then-have_none_in_common c =
-    record {
-      found = search_here c.args.m (c.args.start + c.args.m) c.loop-k.k _ (omega arith) (sym c.have_none_in_common.ensures ∙ c.if-have_none_in_common.true) c.loop-k.invariant;
-      bound = omega arith;
-    }
-
-pub loop-k-preserved : goal.loop-k-preserved
-loop-k-preserved c =
-    search_more c.args.m (c.args.start + c.args.m) c.loop-k.k _ (omega arith) (sym c.have_none_in_common.ensures ∙ c.if-have_none_in_common.false) c.loop-k.invariant
+pub returns-clause-found : goal.returns-clause-found
+returns-clause-found c =
+    let m = c.args.m in
+    c.unwrap_or.ensures
+    ∙ searched m c.args.start c.find.result (first_from_Range _ _ _ _ (λ k. are_apart k m ≡ true) (λ k. are_apart k m ≡ false) c.find.ensures.ran (λ x q k. search (rules, tests)) (λ x q k. search (rules, tests)))

@@ -1,11 +1,11 @@
-use Rattle.std.proofs.Common.{sym, ◌∙◌, arith}
-use Rattle.interleave.specs.SearchLaws.{apart_more, apart_fails}
+use Rattle.std.proofs.Common.{rules, tests, ◌≡◌, ◌+◌, ◌-◌, true, false, arith}
+use Rattle.std.proofs.lemmas.Iterator.{YieldsList-from_range, cases_from_all}
+use Rattle.interleave.specs.Factors.{divides_both}
+use Rattle.interleave.specs.SearchLaws.{tried_all}
 use Rattle.interleave.proofs.steps.have_none_in_common.Goals as goal
 
-pub returns-then-divides_both : goal.returns-then-divides_both
-returns-then-divides_both c =
-    apart_fails c.loop-d.d c.args.a c.args.b (omega arith) (omega arith) (sym c.divides_both.ensures ∙ c.if-divides_both.true)
-
-pub loop-d-preserved : goal.loop-d-preserved
-loop-d-preserved c =
-    apart_more c.loop-d.d c.args.a c.args.b c.loop-d.invariant (sym c.divides_both.ensures ∙ c.if-divides_both.false)
+pub returns : goal.returns
+returns c =
+    let a = c.args.a in
+    let b = c.args.b in
+    tried_all a b c.all.result (cases_from_all _ _ _ (λ d. divides_both d a b ≡ false) (λ d. divides_both d a b ≡ true) c.all.ensures.ran (YieldsList-from_range 2 (b + 1) (b + 1 - 2) (cc) (omega arith)) (λ x q k. search (rules, tests)) (λ x q k. search (rules, tests)))

@@ -4,4 +4,4 @@ use Rattle.packing.proofs.words.word_of_bytes.Goals as goal
 
 pub returns : goal.returns
 returns c =
-    five_unpacked c.args.bytes.now c.code.result _ _ _ c.code.new.res c.requires (λ i. omega (arith, c.type_inv.bytes i)) refl refl (omega (arith, c.code.auto.res)) c.code.ensures.answer c.code.ensures.buffers
+    five_unpacked c.args.bytes.now c.code.result _ _ _ c.code.new.res (omega arith) (λ i. omega (arith, c.fits-bytes i)) refl refl (omega (arith, c.code.auto.res)) c.code.ensures.answer c.code.ensures.buffers

@@ -1,10 +1,11 @@
-use Rattle.std.proofs.Common.{arith}
-use Rattle.packing.proofs.WordFaults.{fault_at_first_one, no_fault_in_zeros}
+use Rattle.std.proofs.Common.{◌+◌, sym, ap, ◌∙◌}
+use Rattle.std.specs.Option.{option_map}
+use Rattle.stage.specs.Faults.{fault_at}
+use Rattle.packing.specs.Packings.{padding}
+use Rattle.packing.proofs.WordFaults.{difference_is}
 use Rattle.packing.proofs.words.zeros_fault.Goals as goal
 
-pub returns-then-zeros-i-ne0 : goal.returns-then-zeros-i-ne0
-returns-then-zeros-i-ne0 c =
-    fault_at_first_one c.args.zeros.now c.loop-i.i c.requires (omega arith) c.loop-i.invariant c.if-zeros-i-ne0.true
-
 pub returns : goal.returns
-returns c = no_fault_in_zeros c.args.zeros.now c.requires (λ k h. c.loop-i.invariant k (omega arith))
+returns c =
+    ap (option_map (λ k. fault_at 1 (33 + k)))
+    (sym (c.in_ok-place.was) ∙ difference_is padding c.args.zeros.now c.first_difference.result (sym c.requires) c.first_difference.ensures)

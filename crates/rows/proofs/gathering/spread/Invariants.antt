@@ -1,7 +1,7 @@
--- The cells before this place are spread, and the carrier in hand is that of this place.
-use Rattle.std.proofs.Common.{◌≡◌, ◌%◌}
+-- The cells before this place are spread, and the given cells that are left are for the others.
+use Rattle.std.specs.Slice.Iter.{iter_rest}
 use Rattle.rows.proofs.GatherLaws.{Spreading}
 use Rattle.rows.proofs.gathering.spread.Given as goal
 
 abbrev pub invariant-loop-place : goal.invariant-loop-place
-invariant-loop-place l = Spreading l.tm l.given l.place l.count l.cells × (l.carrier ≡ l.place % 36)
+invariant-loop-place l = Spreading l.tm l.given (iter_rest l.rest) l.place l.cells

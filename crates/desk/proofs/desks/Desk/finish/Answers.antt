@@ -1,6 +1,6 @@
 use Rattle.std.proofs.Common.{sym, ap, ◌∙◌}
 use Rattle.desk.specs.Desks.{desk_view}
-use Rattle.talk.specs.Texts.{refused_text}
+use Rattle.wording.specs.Texts.{refused_text}
 use Rattle.std.specs.Option.{option_map}
 use Rattle.desk.proofs.TurnLaws.{finishes_turn, refused_turn}
 use Rattle.desk.proofs.desks.Desk.finish.Goals as goal

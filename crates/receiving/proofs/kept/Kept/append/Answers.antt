@@ -1,5 +1,5 @@
 use Rattle.std.proofs.Common.{arith, rules}
-use Rattle.receiving.proofs.KeptLaws.{front_stays_phases, row_appended}
+use Rattle.receiving.proofs.KeptLaws.{front_stays_phases}
 use Rattle.receiving.proofs.kept.Kept.append.Goals as goal
 
 pub invariant_of-self : goal.invariant_of-self
@@ -8,12 +8,4 @@ invariant_of-self c =
     record {
       few = omega arith;
       phases = front_stays_phases k.rows _ k.cells c.copy_from_slice.new.self c.args.row.now (search rules) c.requires.long (search rules) c.requires.phases k.phases;
-    }
-
-pub returns : goal.returns
-returns c =
-    let k = c.args.self.now in
-    record {
-      rows = search rules;
-      cells = row_appended k.rows _ k.cells c.copy_from_slice.new.self c.args.row.now (search rules) c.requires.long (search rules);
     }

@@ -1,6 +1,0 @@
-use Rattle.std.proofs.Common.{◌∙◌}
-use Rattle.chains.proofs.MadeChains.{header_made}
-use Rattle.chains.proofs.headers.over_row.Goals as goal
-
-pub returns : goal.returns
-returns c = c.piled_over.ensures ∙ header_made c.args.reference.now c.requires

@@ -1,7 +1,0 @@
-use Rattle.std.proofs.Common.{◌*◌}
-use Rattle.codings.specs.Unpackers.{byte_at}
-use Rattle.codings.specs.GroupLaws.{Gathered}
-use Rattle.codings.proofs.unpackers.pack_front.Given as goal
-
-abbrev pub invariant-loop-i : goal.invariant-loop-i
-invariant-loop-i l = Gathered (λ k. byte_at l.initial.buffer (k * 8)) l.initial.buffer l.buffer l.i

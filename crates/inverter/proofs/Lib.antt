@@ -1,0 +1,2 @@
+-- Lemmas of the stages that work in place.
+pub mod InPlace

@@ -1,6 +1,0 @@
-use Rattle.receiving.proofs.LiveLaws.{gathered_held}
-use Rattle.receiving.proofs.buffers.gather_live.Goals as goal
-
-pub returns : goal.returns
-returns c =
-    gathered_held c.args.tm c.args.cells.now c.args.buffer.now _ _ c.requires c.gather.ensures.value c.gather.auto.buffer c.gather.ensures.buffer

@@ -1,7 +1,0 @@
--- The digits behind are all hexadecimal, so what is left decides.
-use Rattle.std.proofs.Common.{◌≡◌, drop}
-use Rattle.talk.specs.Hexes.{all_hex}
-use Rattle.talk.proofs.hexes.all_hex.Given as goal
-
-abbrev pub invariant-loop-digit : goal.invariant-loop-digit
-invariant-loop-digit l = all_hex (drop l.digit-index l.word) ≡ all_hex l.word

@@ -1,0 +1,4 @@
+pub mod CellLaws
+pub mod HexLaws
+pub mod NumberLaws
+pub mod WordLaws
