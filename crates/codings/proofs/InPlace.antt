@@ -1,25 +1,30 @@
 -- What holds of a stage that works in place, on the elements at the front of a buffer.
-use Rattle.std.specs.Prelude.{◌≡◌, ℕ, ◌+◌, ◌*◌, ◌<◌, ◌≤◌, true, List, [], ◌++◌, map, length, take, drop, Ok, Err, Result, ◌≢◌, bit_xor, slice_index, slice_index_or, slice_set, refl}
-use Rattle.std.proofs.Common.{sym, ap, ◌∙◌, arith, below_more}
+use Rattle.std.specs.Prelude.{◌≡◌, ℕ, ◌+◌, ◌-◌, ◌*◌, ◌<◌, ◌≤◌, true, List, [], ◌++◌, map, length, take, drop, Some, None, Ok, Err, Result, ◌≢◌, bit_xor, slice_index, slice_index_or, slice_set, refl}
+use Rattle.std.proofs.Common.{Fits, w8, sym, ap, subst, ◌∙◌, arith, below_more}
+use borrow.Rule.Slice.PartMut.{put_mid}
 use Rattle.std.proofs.Math.Seq.{paste}
 use Rattle.std.specs.List.{range_with_len, flat_map}
-use Rattle.std.proofs.lemmas.List.{length-take-le, get_or-take, get_or-set_same, get_or-set_other, take_all, take_more, flat_map_more, at_drop_all}
+use Rattle.std.proofs.lemmas.List.{length-take, length-take-le, get_or-take, get_or-drop, get_or-set_same, get_or-set_other, take_all, take_more, flat_map_more, at_drop_all}
 use Rattle.std.proofs.lemmas.List.FromFn.{fill_by_all}
 use Rattle.std.proofs.lemmas.List.Edits.{take-paste}
+use Rattle.std.proofs.lemmas.Slice.{take-put_mid}
+use Rattle.std.proofs.lemmas.Nat.{mul-le}
 use Rattle.stage.specs.declared.faults.StageFault.{StageFault}
 use Rattle.stage.specs.declared.faults.ChainFault.{ChainFault}
 use Rattle.stage.specs.Faults.{fault_at}
 use Rattle.stage.specs.Plain.{within}
 use Rattle.stage.specs.Model.{plain, legal, decoding}
 use Rattle.stage.specs.Calls.{Holds, Leaves}
-use Rattle.stage.specs.Lists.{some_is_there, within_from, same_by_places}
+use Rattle.stage.specs.Lists.{some_is_there, within_at, within_from, same_by_places}
 use Rattle.stage.specs.Legality.{legal_from_parts}
 use Rattle.stage.specs.Plains.{plain_accepts}
+use Rattle.stage.specs.Agreement.{Regains}
 use Rattle.codings.specs.declared.checks.Register.{Register}
 use Rattle.codings.specs.Polynomials.{fed_all, remainder}
 use Rattle.codings.specs.Checks.{message_bits, check_bits, generator, checking, cells}
+use Rattle.codings.specs.GroupLaws.{group_inside, part_long, Chunk}
 use Rattle.codings.specs.Scramblers.{byte, scrambled, longest, short_length, scrambling}
-use Rattle.codings.specs.ScrambleLaws.{short_legal, scrambled_twice, length_scrambled, scrambled_at, scrambling_sound}
+use Rattle.codings.specs.ScrambleLaws.{short_is, short_legal, scrambled_twice, scrambled_bytes, length_scrambled, scrambled_at, scrambled_again, scrambling_sound}
 
 -- An answer with a stage's fault as one with that of a chain in which the stage is next to the line.
 abbrev pub at_the_line : Result ℕ StageFault → Result ℕ ChainFault
@@ -95,6 +100,24 @@ pub gathered_in_front : (f : ℕ → ℕ) (count : ℕ) (before buffer : List �
 gathered_in_front f count before buffer l h =
     fill_by_all f (take count buffer) count 0 (length-take-le count buffer l) (λ k s. get_or-take count buffer k 0 s ∙ h.moved k s)
 
+-- where the next group stands in the buffer
+pub part_next : (f : ℕ → ℕ) (before buffer : List ℕ) (n t i count : ℕ) → 0 < t → i < count → n ≡ count * t → n ≤ length before → length buffer ≡ length before
+    → Gathered f before buffer i → Chunk (take n before) t i (take ((i + 1) * t - i * t) (drop (i * t) buffer)) (drop ((i + 1) * t) (take n before))
+part_next f before buffer n t i count p l e r same h =
+    let inside : i * t + t ≤ n = omega (arith, e, group_inside i count t l) in
+    let wide : (i + 1) * t - i * t ≡ t = omega arith in
+    let many : i ≤ i * t = omega (arith, mul-le i 1 i t (omega arith) p) in
+    record {
+      long = part_long i t buffer (omega (arith, inside, same));
+      inside = omega (arith, inside, length-take-le n before r);
+      at = λ k s.
+          get_or-take ((i + 1) * t - i * t) (drop (i * t) buffer) k 0 (omega (arith, wide))
+          ∙ get_or-drop (i * t) buffer k 0
+          ∙ h.rest (i * t + k) (omega (arith, many))
+          ∙ sym (get_or-take n before (i * t + k) 0 (omega (arith, inside)));
+      behind = λ j on. ap (λ m. drop (m * t) (take n before)) (sym on);
+    }
+
 -- The first `count` elements of a buffer are XORed with the sequence from its start on, and the
 -- rest is as it was.
 pub record Scrambling (before : List ℕ) (after : List ℕ) (count : ℕ) : Type 0 where
@@ -136,6 +159,34 @@ mixed_front n before after l long f =
           ∙ ap (λ m. bit_xor (slice_index (take n before) i) (byte m)) (sym z)
           ∙ sym (scrambled_at 0 (take n before) i (omega arith)));
     }
+
+-- a list that is wholly XORed is the coding
+pub mixed_whole : (count : ℕ) (before after : List ℕ) → length before ≤ count → length after ≡ length before → Scrambling before after count → after ≡ scrambled 0 before
+mixed_whole count before after l long f =
+    let ls = length_scrambled 0 before in
+    same_by_places after (scrambled 0 before) (omega arith) (λ i h.
+    let z : 0 + 8 * i ≡ 8 * i = omega arith in
+    f.mixed i (omega arith) ∙ ap (λ m. bit_xor (slice_index before i) (byte m)) (sym z) ∙ sym (scrambled_at 0 before i (omega arith)))
+
+-- where the front of a buffer is XORed, it is the coding of the front, and what its coding regains
+pub mixed_coded : (n reach m k : ℕ) (before mixed : List ℕ) → short_length n ≡ Some reach → n ≤ length before → m ≡ n → mixed ≡ scrambled 0 (take m before) → take reach (put_mid 0 k before mixed) ≡ scrambled 0 (take n before)
+mixed_coded n reach m k before mixed e l same made =
+    let front : mixed ≡ scrambled 0 (take n before) = made ∙ ap (λ i. scrambled 0 (take i before)) same in
+    take-put_mid 0 k before mixed reach (omega (arith, (short_is n reach e).1, ap length front, length_scrambled 0 (take n before), length-take-le n before l)) (omega arith) ∙ front
+
+pub mixed_regained : (n reach k : ℕ) (before mixed : List ℕ) → short_length n ≡ Some reach → n ≤ length before → ((i : ℕ) → Fits w8 (slice_index (put_mid 0 k before mixed) i)) → mixed ≡ scrambled 0 (take (n - 0) before)
+    → Regains (scrambling 0) (take n before) None (take reach (put_mid 0 k before mixed))
+mixed_regained n reach k before mixed e l small made =
+    scrambled_again (take n before) (take reach (put_mid 0 k before mixed)) (λ i. omega (arith, within_at 255 (take n before) i bytes)) coded
+  where
+    coded : take reach (put_mid 0 k before mixed) ≡ scrambled 0 (take n before)
+    coded = mixed_coded n reach (n - 0) k before mixed e l (omega arith) made
+
+    left : within 255 (take reach (put_mid 0 k before mixed)) ≡ true
+    left = within_from 255 (take reach (put_mid 0 k before mixed)) (λ i h. omega (arith, get_or-take reach (put_mid 0 k before mixed) i 0 (omega (arith, length-take reach (put_mid 0 k before mixed))), small i))
+
+    bytes : within 255 (take n before) ≡ true
+    bytes = subst (λ (zs : List ℕ). within 255 zs ≡ true) (ap (scrambled 0) coded ∙ scrambled_twice 0 (take n before)) (scrambled_bytes 0 (take reach (put_mid 0 k before mixed)) left)
 
 -- what is left by scrambling again is the list that was scrambled
 pub unscrambled : (n count : ℕ) (before after : List ℕ) → n ≤ longest → n ≤ length before → ((i : ℕ) → slice_index after i < 256) → Holds after count (scrambled 0 (take n before)) → decoding (plain (scrambling 0)) (take n before) ≡ Ok (take count after)

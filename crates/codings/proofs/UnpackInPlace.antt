@@ -1,8 +1,8 @@
 -- What holds of the stage that unpacks bytes where it works in place, at the front of a buffer.
-use Rattle.std.specs.Prelude.{◌≡◌, ℕ, ◌+◌, ◌*◌, ◌<◌, ◌≤◌, max, true, List, length, take, set, Some, Ok, Err, slice_index, slice_index_or, slice_set}
+use Rattle.std.specs.Prelude.{◌≡◌, ℕ, ◌+◌, ◌-◌, ◌*◌, ◌<◌, ◌≤◌, max, true, List, length, take, drop, set, Some, Ok, Err, slice_index, slice_index_or, slice_set}
 use Rattle.std.proofs.Common.{sym, ap, ◌∙◌, arith}
 use Rattle.std.proofs.Math.Seq.{paste}
-use Rattle.std.proofs.lemmas.List.{length-take-le, get_or-take}
+use Rattle.std.proofs.lemmas.List.{length-take-le, get_or-take, get_or-drop}
 use Rattle.std.proofs.lemmas.List.Edits.{paste_more}
 use Rattle.stage.specs.Lengths.{longest_with}
 use Rattle.stage.specs.Model.{plain, legal, decoding, code_room}
@@ -11,7 +11,7 @@ use Rattle.stage.specs.Lists.{same_by_places}
 use Rattle.stage.specs.Agreement.{AgreesUpTo}
 use Rattle.stage.specs.AgreementLaws.{agrees_wholly_accepts, agrees_partly_refuses}
 use Rattle.codings.specs.NearestBits.{nearest_bit}
-use Rattle.codings.specs.Unpackers.{most_bytes, bit_of, eight_bits, packed_length, byte_at, packed, unpacking}
+use Rattle.codings.specs.Unpackers.{most_bytes, bit_of, eight_bits, packed_length, byte_of, byte_at, packed, unpacking}
 use Rattle.codings.specs.UnpackLaws.{bit_at, eight, same_byte, legal_few, bytes_at, length_packed, coded_at, unpacking_sound}
 use Rattle.codings.specs.GroupLaws.{grouped_legal, counted_is}
 use Rattle.codings.proofs.InPlace.{Leading, Gathered}
@@ -68,6 +68,25 @@ pub byte_stays : (before buffer : List ℕ) (i : ℕ) → Gathered (λ k. byte_a
 byte_stays before buffer i h =
     same_byte (λ k. nearest_bit (slice_index buffer (i * 8 + k))) (λ k. nearest_bit (slice_index before (i * 8 + k))) (λ k _. ap nearest_bit (bit_stays before buffer i h k))
 
+-- where the bits of a byte stand in a buffer: all are bits, and they make the byte
+part_at : (before buffer : List ℕ) (i count : ℕ) → i < count → count * 8 ≤ length buffer → Gathered (λ k. byte_at before (k * 8)) before buffer i
+    → (k : ℕ) → k < 8 → slice_index (take ((i + 1) * 8 - i * 8) (drop (i * 8) buffer)) k ≡ slice_index before (i * 8 + k)
+part_at before buffer i count l r h k s =
+    get_or-take ((i + 1) * 8 - i * 8) (drop (i * 8) buffer) k 0 (omega arith) ∙ get_or-drop (i * 8) buffer k 0 ∙ bit_stays before buffer i h k
+
+pub bits_of_part : (before buffer : List ℕ) (i count : ℕ) → i < count → count * 8 ≤ length buffer
+    → ((k : ℕ) → k < count * 8 → slice_index before k ≤ 1) → Gathered (λ k. byte_at before (k * 8)) before buffer i
+    → (k : ℕ) → k < 8 → slice_index (take ((i + 1) * 8 - i * 8) (drop (i * 8) buffer)) k ≤ 1
+bits_of_part before buffer i count l r bits h k s =
+    omega (arith, part_at before buffer i count l r h k s, bits (i * 8 + k) (omega arith))
+
+pub byte_of_part : (before buffer : List ℕ) (i count : ℕ) → i < count → count * 8 ≤ length buffer
+    → ((k : ℕ) → k < count * 8 → slice_index before k ≤ 1) → Gathered (λ k. byte_at before (k * 8)) before buffer i
+    → byte_of (λ k. slice_index (take ((i + 1) * 8 - i * 8) (drop (i * 8) buffer)) k) ≡ byte_at before (i * 8)
+byte_of_part before buffer i count l r bits h =
+    same_byte (λ k. slice_index (take ((i + 1) * 8 - i * 8) (drop (i * 8) buffer)) k) (λ k. nearest_bit (slice_index before (i * 8 + k))) (λ k s.
+    omega (arith, part_at before buffer i count l r h k s, bits (i * 8 + k) (omega arith)))
+
 -- a list of bits agrees with a coding as far as it has bits
 bits_agree : (n count place : ℕ) (buffer : List ℕ) → count * 8 ≡ n → n ≤ length buffer → Leading n buffer place → AgreesUpTo unpacking count (take n buffer) place
 bits_agree n count place buffer e l f =
@@ -79,7 +98,7 @@ bits_agree n count place buffer e l f =
     }
 
 -- the bytes of a front are those of the buffer
-front_bytes : (n count : ℕ) (buffer : List ℕ) → count * 8 ≡ n → packed count (take n buffer) ≡ packed count buffer
+pub front_bytes : (n count : ℕ) (buffer : List ℕ) → count * 8 ≡ n → packed count (take n buffer) ≡ packed count buffer
 front_bytes n count buffer e =
     same_by_places (packed count (take n buffer)) (packed count buffer) (length_packed count (take n buffer) ∙ sym (length_packed count buffer)) (λ i h.
     let s : i < count = omega (arith, length_packed count (take n buffer)) in

@@ -52,3 +52,9 @@ made_repeat times = cond (known_times times) (Ok (plain (repetition times))) (Er
 abbrev pub FirstOther : ℕ → List ℕ → Option ℕ → Type 0
 FirstOther bit list None = (k : ℕ) → k < length list → slice_index list k ≡ bit
 FirstOther bit list (Some place) = (place < length list) × ((k : ℕ) → k < place → slice_index list k ≡ bit) × (slice_index list place ≢ bit)
+
+-- A group is made of copies of a bit, or the first element that is no copy of the bit nearest to the
+-- group's head stands at a place.
+abbrev pub Copied : List ℕ → Result ℕ ℕ → Type 0
+Copied copies (Ok bit) = (bit ≡ nearest_bit (slice_index copies 0)) × FirstOther bit copies None
+Copied copies (Err place) = FirstOther (nearest_bit (slice_index copies 0)) copies (Some place)

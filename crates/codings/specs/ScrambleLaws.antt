@@ -16,7 +16,7 @@ use Rattle.codings.specs.Scramblers.{up_to, byte, scrambled, longest, short_leng
 use Rattle.codings.specs.SequenceLaws.{byte_next, window_next, byte_small}
 
 -- a length that is legal leads to itself
-short_is : (n k : ℕ) → short_length n ≡ Some k → (n ≤ longest) × (n ≡ k)
+pub short_is : (n k : ℕ) → short_length n ≡ Some k → (n ≤ longest) × (n ≡ k)
 short_is n k h =
     let u = some_under_test (nat_le n longest) n k h in (leb-true n longest u.0, u.1)
 
@@ -45,7 +45,7 @@ pub length_scrambled : (n : ℕ) (xs : List ℕ) → length (scrambled n xs) ≡
 length_scrambled n [] = refl
 length_scrambled n (x ∷ xs) = ap suc (length_scrambled (n + 8) xs)
 
-scrambled_bytes : (n : ℕ) (xs : List ℕ) → within 255 xs ≡ true → within 255 (scrambled n xs) ≡ true
+pub scrambled_bytes : (n : ℕ) (xs : List ℕ) → within 255 xs ≡ true → within 255 (scrambled n xs) ≡ true
 scrambled_bytes n [] h = refl
 scrambled_bytes n (x ∷ xs) h =
     let parts = and_parts (nat_le x 255) (within 255 xs) h in

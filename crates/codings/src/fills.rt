@@ -1,9 +1,10 @@
 //! Filling: zeros behind a list of bits of fixed length.
 
-ghost use Rattle.std.specs.Prelude.{◌≡◌, true, cond};
+ghost use Rattle.std.specs.Prelude.{◌≡◌, ◌≤◌, true, cond, length, take, Some};
 ghost use Rattle.std.specs.Result.{result_map_both};
 ghost use Rattle.stage.specs.declared.faults.Refusal.TheVariants.{Setting};
 ghost use Rattle.stage.specs.Model.{plain};
+ghost use Rattle.stage.specs.Agreement.{Regains};
 ghost use Rattle.codings.specs.Fills.{made_fill, fillable, filling};
 ghost use Rattle.codings.specs.FillLaws.{filling_sound};
 
@@ -33,6 +34,18 @@ impl Fill {
         } else {
             Err(Refusal::Setting)
         }
+    }
+
+    /// The place of the first element of `received` that a coding has not there.
+    fn first_wrong(&self, received: &[u8]) -> Option<usize>
+        requires { length received.now ≡ self.now.total }
+        ensures { Regains (filling self.now.bits self.now.total) received.now result (take self.now.bits received.now) }
+    {
+        let (bits, zeros) = received.split_at(self.bits);
+        if let Some(place) = first_above(bits, 1) {
+            return Some(place);
+        }
+        first_above(zeros, 0).map(|place| self.bits + place)
     }
 }
 
@@ -66,12 +79,30 @@ impl PlainStage for Fill {
     }
 
     fn regain(&self, received: &[u8], list: &mut [u8]) -> Option<usize> {
-        let (bits, zeros) = received.split_at(self.bits);
-        list.copy_from_slice(bits);
-        if let Some(place) = first_above(bits, 1) {
-            return Some(place);
-        }
-        first_above(zeros, 0).map(|place| self.bits + place)
+        list.copy_from_slice(&received[0..self.bits]);
+        self.first_wrong(received)
+    }
+
+    fn code_front(&self, n: usize, reach: usize, work: &mut [u8], res: &mut [u8])
+        requires long { (filling self.now.bits self.now.total).coded_length n ≡ Some reach }
+        requires aside { n ≤ length work.old }
+        requires front { n ≤ length res.old }
+        requires room { reach ≤ length res.old }
+        ensures coded { take reach res.new ≡ (filling self.now.bits self.now.total).coding (take n res.old) }
+        ensures work { work.new ≡ work.old }
+    {
+        res[n..reach].fill(0);
+    }
+
+    fn regain_front(&self, n: usize, reach: usize, work: &mut [u8], res: &mut [u8]) -> Option<usize>
+        requires long { (filling self.now.bits self.now.total).message_length n ≡ Some reach }
+        requires aside { n ≤ length work.old }
+        requires front { n ≤ length res.old }
+        requires room { reach ≤ length res.old }
+        ensures regained { Regains (filling self.now.bits self.now.total) (take n res.old) result (take reach res.new) }
+        ensures work { work.new ≡ work.old }
+    {
+        self.first_wrong(&res[0..n])
     }
 
     ghost sound = { λ s. filling_sound s.bits s.total s.range };

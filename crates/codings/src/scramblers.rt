@@ -1,6 +1,7 @@
 //! A stage that XORs bytes with a bit sequence, so that long runs of equal bits are broken up.
 
-ghost use Rattle.std.specs.Prelude.{◌≡◌, length};
+ghost use Rattle.std.specs.Prelude.{◌≡◌, ◌≤◌, length, take, Some};
+ghost use Rattle.stage.specs.Agreement.{Regains};
 ghost use Rattle.codings.specs.Scramblers.{scrambling, scrambled, short_length, four_on, SequenceLaw, ScrambleExample};
 ghost use Rattle.codings.specs.ScrambleLaws.{scrambling_sound};
 
@@ -55,6 +56,17 @@ fn mix(list: &[u8], mixed: &mut [u8])
     }
 }
 
+/// XORs the bytes of `list` with the sequence.
+fn mix_over(list: &mut [u8])
+    ensures { list.new ≡ scrambled 0 list.old }
+{
+    let mut window = SEVEN_ONES;
+    for byte in list.iter_mut() {
+        window = next_byte(window);
+        *byte ^= window;
+    }
+}
+
 impl PlainStage for Scramble {
     ghost meaning = { λ _. scrambling 0 };
 
@@ -84,6 +96,29 @@ impl PlainStage for Scramble {
 
     fn regain(&self, received: &[u8], list: &mut [u8]) -> Option<usize> {
         mix(received, list);
+        None
+    }
+
+    fn code_front(&self, n: usize, reach: usize, work: &mut [u8], res: &mut [u8])
+        requires long { (scrambling 0).coded_length n ≡ Some reach }
+        requires aside { n ≤ length work.old }
+        requires front { n ≤ length res.old }
+        requires room { reach ≤ length res.old }
+        ensures coded { take reach res.new ≡ (scrambling 0).coding (take n res.old) }
+        ensures work { work.new ≡ work.old }
+    {
+        mix_over(&mut res[0..reach]);
+    }
+
+    fn regain_front(&self, n: usize, reach: usize, work: &mut [u8], res: &mut [u8]) -> Option<usize>
+        requires long { (scrambling 0).message_length n ≡ Some reach }
+        requires aside { n ≤ length work.old }
+        requires front { n ≤ length res.old }
+        requires room { reach ≤ length res.old }
+        ensures regained { Regains (scrambling 0) (take n res.old) result (take reach res.new) }
+        ensures work { work.new ≡ work.old }
+    {
+        mix_over(&mut res[0..n]);
         None
     }
 

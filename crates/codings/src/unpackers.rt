@@ -1,6 +1,7 @@
 //! Unpacking: each byte as eight bits, highest first.
 
-ghost use Rattle.std.specs.Prelude.{◌≡◌, ◌*◌, ◌<◌, ◌≤◌, length, slice_index, EachIndex};
+ghost use Rattle.std.specs.Prelude.{◌≡◌, ℕ, ◌*◌, ◌<◌, ◌≤◌, length, take, Some, slice_index, EachIndex};
+ghost use Rattle.stage.specs.Agreement.{Regains};
 ghost use Rattle.codings.specs.Unpackers.{bit_of, eight_bits, byte_of, packed, unpacking};
 ghost use Rattle.codings.specs.UnpackLaws.{unpacking_sound};
 
@@ -26,11 +27,14 @@ fn bit_from_top(byte: u8, k: usize) -> u8
     (byte >> (WIDTH - 1 - k)) % 2
 }
 
-/// The eight bits of `byte`, highest first.
-fn bits_of(byte: u8) -> [u8; WIDTH]
-    ensures { result ≡ eight_bits byte }
+/// Writes the eight bits of `byte` over `eight`, highest first.
+fn put_bits(byte: u8, eight: &mut [u8])
+    requires { length eight.old ≡ 8 }
+    ensures { eight.new ≡ eight_bits byte }
 {
-    std::array::from_fn(|k| bit_from_top(byte, k))
+    for (k, bit) in eight.iter_mut().enumerate() {
+        *bit = bit_from_top(byte, k);
+    }
 }
 
 /// The byte of eight bits, highest first.
@@ -57,6 +61,18 @@ fn pack(bits: &[u8], bytes: &mut [u8])
 {
     for (i, eight) in bits.chunks_exact(WIDTH).enumerate() {
         bytes[i] = byte_from_bits(eight);
+    }
+}
+
+/// Writes the bytes of the first `count` times eight bits over the front of the buffer that holds
+/// them.
+fn pack_front(count: usize, buffer: &mut [u8])
+    requires room { count * 8 ≤ length buffer.old }
+    requires bits { (k : ℕ) → k < count * 8 → slice_index buffer.old k ≤ 1 }
+    ensures { take count buffer.new ≡ packed count buffer.old }
+{
+    for i in 0..count {
+        buffer[i] = byte_from_bits(&buffer[i * WIDTH..(i + 1) * WIDTH]);
     }
 }
 
@@ -90,7 +106,7 @@ impl PlainStage for UnpackBits {
     fn write_coding(&self, list: &[u8], coded: &mut [u8]) {
         for (i, byte) in list.iter().enumerate() {
             // By place: what is written through `chunks_exact_mut` is not known behind it.
-            coded[i * WIDTH..(i + 1) * WIDTH].copy_from_slice(&bits_of(*byte));
+            put_bits(*byte, &mut coded[i * WIDTH..(i + 1) * WIDTH]);
         }
     }
 
@@ -99,6 +115,21 @@ impl PlainStage for UnpackBits {
             return Some(place);
         }
         pack(received, list);
+        None
+    }
+
+    fn regain_front(&self, n: usize, reach: usize, work: &mut [u8], res: &mut [u8]) -> Option<usize>
+        requires long { unpacking.message_length n ≡ Some reach }
+        requires aside { n ≤ length work.old }
+        requires front { n ≤ length res.old }
+        requires room { reach ≤ length res.old }
+        ensures regained { Regains unpacking (take n res.old) result (take reach res.new) }
+        ensures work { work.new ≡ work.old }
+    {
+        if let Some(place) = first_above(&res[0..n], 1) {
+            return Some(place);
+        }
+        pack_front(reach, res);
         None
     }
 

@@ -105,6 +105,12 @@ put_more xs coded i register b word x y k k' w l h m ex ey next before =
     } in
     subst (λ (c : ℕ). Putting xs (set (set coded (2 * i) x) (2 * i + 1) y) c (word % 64)) (omega (arith, h.place)) after
 
+-- and a turn that writes a pair and answers the next register
+pub pair_more : (xs coded coded' : List ℕ) (i register register' b word : ℕ) → within 1 xs ≡ true → 2 * i + 1 < length coded → InHand xs i i b → word ≡ 2 * register + b → register' ≡ word % 64 → coded' ≡ set (set coded (2 * i) (word_x word)) (2 * i + 1) (word_y word) → Putting xs coded i register → Putting xs coded' (i + 1) register'
+pair_more xs coded coded' i register register' b word w l h m next pair before =
+    let after = put_more xs coded i register b word (word_x word) (word_y word) i (i + 1) w l h m refl refl refl before in
+    subst (λ (r : ℕ). Putting xs coded' (i + 1) r) (sym next) (subst (λ (zs : List ℕ). Putting xs zs (i + 1) (word % 64)) (sym pair) after)
+
 pub put_all : (xs coded : List ℕ) (i register : ℕ) → length coded ≡ 2 * (length xs + tail) → length xs + tail ≤ i → Putting xs coded i register → coded ≡ convolved xs
 put_all xs coded i register room most p =
     same_by_places coded (convolved xs) (room ∙ sym (length_convolved xs)) (λ k h.

@@ -1,6 +1,7 @@
 //! The convolutional code of rate one half and constraint length seven.
 
-ghost use Rattle.std.specs.Prelude.{◌≡◌, ◌+◌, ◌*◌, ◌<◌, ◌≤◌};
+ghost use Rattle.std.specs.Prelude.{◌≡◌, ◌+◌, ◌*◌, ◌%◌, ◌<◌, ◌≤◌, length, take, slice_set, Some};
+ghost use Rattle.stage.specs.Agreement.{Regains};
 ghost use Rattle.convolution.specs.Convolutions.{convolution, SingleOne};
 ghost use Rattle.convolution.specs.Words.{word_x, word_y, fitting_bit};
 ghost use Rattle.convolution.specs.NearestLaws.{convolution_sound};
@@ -53,6 +54,17 @@ fn y_of(word: u8) -> u8
     (word ^ (word >> 2) ^ (word >> 3) ^ (word >> 5) ^ (word >> 6)) & 1
 }
 
+/// Writes X and Y of a word over pair `i` of `coded`; answers the register behind it.
+fn put_pair(i: usize, word: u8, coded: &mut [u8]) -> u8
+    requires { 2 * i + 1 < length coded.old }
+    ensures register { result ≡ word % 64 }
+    ensures pair { coded.new ≡ slice_set (slice_set coded.old (2 * i) (word_x word)) (2 * i + 1) (word_y word) }
+{
+    coded[2 * i] = x_of(word);
+    coded[2 * i + 1] = y_of(word);
+    word % REGISTERS
+}
+
 /// The bit at place `i` of a message of `count` bits that makes X the received `x`, after the
 /// bits in `register`; 0 in the tail.
 fn bit_at(i: usize, count: usize, register: u8, x: u8) -> u8
@@ -101,12 +113,11 @@ impl PlainStage for Convolve {
 
     fn write_coding(&self, list: &[u8], coded: &mut [u8]) {
         let mut register = 0u8;
-        for (i, bit) in list.iter().chain(&[0; TAIL]).enumerate() {
-            let word = word_of(register, *bit);
-            // By place: what is written through `chunks_exact_mut` is not known behind it.
-            coded[2 * i] = x_of(word);
-            coded[2 * i + 1] = y_of(word);
-            register = word % REGISTERS;
+        for (i, bit) in list.iter().enumerate() {
+            register = put_pair(i, word_of(register, *bit), coded);
+        }
+        for i in list.len()..list.len() + TAIL {
+            register = put_pair(i, word_of(register, 0), coded);
         }
     }
 
@@ -124,6 +135,30 @@ impl PlainStage for Convolve {
             if i < list.len() {
                 list[i] = bit;
             }
+            register = word % REGISTERS;
+        }
+        None
+    }
+
+    fn regain_front(&self, n: usize, reach: usize, work: &mut [u8], res: &mut [u8]) -> Option<usize>
+        requires long { convolution.message_length n ≡ Some reach }
+        requires aside { n ≤ length work.old }
+        requires front { n ≤ length res.old }
+        requires room { reach ≤ length res.old }
+        ensures regained { Regains convolution (take n res.old) result (take reach res.new) }
+        ensures work { work.new ≡ work.old }
+    {
+        let mut register = 0u8;
+        for i in 0..reach + TAIL {
+            let bit = bit_at(i, reach, register, res[2 * i]);
+            let word = word_of(register, bit);
+            if res[2 * i] != x_of(word) {
+                return Some(2 * i);
+            }
+            if res[2 * i + 1] != y_of(word) {
+                return Some(2 * i + 1);
+            }
+            res[i] = bit;
             register = word % REGISTERS;
         }
         None

@@ -93,13 +93,12 @@ impl<'a> Walk<'a> {
         ensures target { result.1 ≡ (self.now.target + (if nat_lt (self.now.row + stride.rows) self.now.block.now.rows then stride.on else stride.over)) % self.now.block.now.width }
     {
         let row = self.row + stride.rows;
-        let columns = if row < self.block.rows {
-            stride.on
-        } else {
-            stride.over
-        };
-        let target = wrapped(self.target + columns, self.block.width);
-        (wrapped(row, self.block.rows), target)
+        if row < self.block.rows {
+            let target = wrapped(self.target + stride.on, self.block.width);
+            return (row, target);
+        }
+        let target = wrapped(self.target + stride.over, self.block.width);
+        (row - self.block.rows, target)
     }
 
     /// Where the block of the next bit begins, which is this one or the one behind it.

@@ -1,7 +1,9 @@
 -- What holds of a stage that works in place, on the elements at the front of a buffer.
 use Rattle.std.specs.Prelude.{◌≡◌, ℕ, ◌+◌, ◌-◌, ◌<◌, ◌≤◌, true, ◌⊎◌, List, [], ◌∷◌, ◌++◌, map, length, take, Some, Ok, Err, Result, ◌≢◌, slice_index, slice_set, refl}
 use Rattle.std.proofs.Common.{sym, ap, subst, ◌∙◌, inl, inr, arith, below_more, length-set}
+use borrow.Rule.Slice.PartMut.{put_mid}
 use Rattle.std.proofs.lemmas.List.{length-map, length-take-le, get_or-take, get_or-set_same, get_or-set_other, take_more, take_more_set}
+use Rattle.std.proofs.lemmas.Slice.{take-put_mid}
 use Rattle.std.proofs.lemmas.Bool.{cases_lt}
 use Rattle.stage.specs.declared.faults.StageFault.{StageFault}
 use Rattle.stage.specs.Faults.{fault_at}
@@ -12,7 +14,7 @@ use Rattle.stage.specs.Lists.{within_at, within_from, same_by_places, some_is_th
 use Rattle.stage.specs.Legality.{legal_within, legal_from_parts}
 use Rattle.stage.specs.Plains.{plain_accepts, plain_refuses}
 use Rattle.inverter.specs.Complement.{flip, any_length, complement}
-use Rattle.inverter.specs.Complements.{any_length_legal, flipped_bits, flip_twice, flipped_at, twice_at, complement_sound}
+use Rattle.inverter.specs.Complements.{any_length_is, any_length_legal, flipped_bits, flip_twice, flipped_at, twice_at, complement_sound}
 use Rattle.inverter.specs.Mark.{nearest_bit, mark, marked_length, unmarked_length, marking}
 use Rattle.inverter.specs.Marks.{unmarked_is, back, guess_at, guess_mark, marking_sound}
 
@@ -56,6 +58,18 @@ flip_more before buffer i other l small e f =
           (get_or-set_same buffer i other 0 l ∙ e ∙ ap flip same);
       rest = λ k h. get_or-set_other buffer i k other 0 (omega arith) ∙ f.rest k (omega arith);
     }
+
+-- a list that is wholly complemented is the coding
+pub flipped_whole : (count : ℕ) (before after : List ℕ) → length before ≤ count → length after ≡ length before → Flipping before after count → after ≡ map flip before
+flipped_whole count before after l long f =
+    let lm = length-map before flip in
+    same_by_places after (map flip before) (omega arith) (λ i h. f.flipped i (omega arith) ∙ sym (flipped_at before i (omega arith)))
+
+-- the same of the front of a buffer
+pub flipped_coded : (n reach m k : ℕ) (before flipped : List ℕ) → any_length n ≡ Some reach → n ≤ length before → m ≡ n → flipped ≡ map flip (take m before) → take reach (put_mid 0 k before flipped) ≡ map flip (take n before)
+flipped_coded n reach m k before flipped e l same made =
+    let front : flipped ≡ map flip (take n before) = made ∙ ap (λ i. map flip (take i before)) same in
+    take-put_mid 0 k before flipped reach (omega (arith, (any_length_is n reach e).1, ap length front, length-map (take n before) flip, length-take-le n before l)) (omega arith) ∙ front
 
 -- the elements of a list of bits are all complemented
 all_flipped : (n count : ℕ) (before after : List ℕ) → within 1 (take n before) ≡ true → Flipped n before after count → count ≡ n

@@ -1,7 +1,9 @@
 //! A stage that complements bits.
 
-ghost use Rattle.std.specs.Prelude.{◌≡◌, ◌≤◌, true, map, length};
+ghost use Rattle.std.specs.Prelude.{◌≡◌, ◌≤◌, true, map, length, take, Some};
 ghost use Rattle.stage.specs.Plain.{within};
+ghost use Rattle.stage.specs.Model.{plain, legal};
+ghost use Rattle.stage.specs.Agreement.{Regains};
 ghost use Rattle.inverter.specs.Complement.{complement, flip};
 ghost use Rattle.inverter.specs.Complements.{complement_sound};
 
@@ -40,6 +42,16 @@ fn complement_all(bits: &[u8], others: &mut [u8])
     }
 }
 
+/// Complements each of `bits`.
+fn complement_over(bits: &mut [u8])
+    requires { within 1 bits.old ≡ true }
+    ensures { bits.new ≡ map flip bits.old }
+{
+    for bit in bits.iter_mut() {
+        *bit = other_bit(*bit);
+    }
+}
+
 impl PlainStage for Inverter {
     ghost meaning = { λ _. complement };
 
@@ -74,6 +86,33 @@ impl PlainStage for Inverter {
             return Some(place);
         }
         complement_all(received, list);
+        None
+    }
+
+    fn code_front(&self, n: usize, reach: usize, work: &mut [u8], res: &mut [u8])
+        requires list { legal (plain complement) (take n res.old) ≡ true }
+        requires long { complement.coded_length n ≡ Some reach }
+        requires aside { n ≤ length work.old }
+        requires front { n ≤ length res.old }
+        requires room { reach ≤ length res.old }
+        ensures coded { take reach res.new ≡ complement.coding (take n res.old) }
+        ensures work { work.new ≡ work.old }
+    {
+        complement_over(&mut res[0..reach]);
+    }
+
+    fn regain_front(&self, n: usize, reach: usize, work: &mut [u8], res: &mut [u8]) -> Option<usize>
+        requires long { complement.message_length n ≡ Some reach }
+        requires aside { n ≤ length work.old }
+        requires front { n ≤ length res.old }
+        requires room { reach ≤ length res.old }
+        ensures regained { Regains complement (take n res.old) result (take reach res.new) }
+        ensures work { work.new ≡ work.old }
+    {
+        if let Some(place) = first_above(&res[0..n], HIGHEST_BIT) {
+            return Some(place);
+        }
+        complement_over(&mut res[0..n]);
         None
     }
 }

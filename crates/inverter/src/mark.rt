@@ -1,6 +1,7 @@
 //! A stage that puts a closing mark behind a list of bits.
 
-ghost use Rattle.std.specs.Prelude.{◌≡◌, ◌+◌, ◌≤◌, length};
+ghost use Rattle.std.specs.Prelude.{◌≡◌, ◌+◌, ◌-◌, ◌<◌, ◌≤◌, length, take, Some};
+ghost use Rattle.stage.specs.Agreement.{Regains};
 ghost use Rattle.inverter.specs.Mark.{marking};
 ghost use Rattle.inverter.specs.Marks.{marking_sound};
 
@@ -22,6 +23,21 @@ const LONGEST: usize = 65_535;
 /// A plain stage that puts a 1 behind a list of 0 to 65,534 bits.
 #[derive(Clone, Copy)]
 pub struct Marker;
+
+/// The place of the first element of `received` that is no bit, or no mark where that stands.
+fn first_wrong(received: &[u8]) -> Option<usize>
+    requires { 0 < length received.now }
+    ensures { Regains marking received.now result (take (length received.now - 1) received.now) }
+{
+    let (bits, mark) = received.split_at(received.len() - 1);
+    if let Some(place) = first_above(bits, TAKES) {
+        return Some(place);
+    }
+    if mark[0] != MARK {
+        return Some(bits.len());
+    }
+    None
+}
 
 impl PlainStage for Marker {
     ghost meaning = { λ _. marking };
@@ -62,14 +78,29 @@ impl PlainStage for Marker {
     }
 
     fn regain(&self, received: &[u8], list: &mut [u8]) -> Option<usize> {
-        let (bits, mark) = received.split_at(list.len());
-        if let Some(place) = first_above(bits, TAKES) {
-            return Some(place);
-        }
-        if mark[0] != MARK {
-            return Some(bits.len());
-        }
-        list.copy_from_slice(bits);
-        None
+        list.copy_from_slice(&received[0..list.len()]);
+        first_wrong(received)
+    }
+
+    fn code_front(&self, n: usize, reach: usize, work: &mut [u8], res: &mut [u8])
+        requires long { marking.coded_length n ≡ Some reach }
+        requires aside { n ≤ length work.old }
+        requires front { n ≤ length res.old }
+        requires room { reach ≤ length res.old }
+        ensures coded { take reach res.new ≡ marking.coding (take n res.old) }
+        ensures work { work.new ≡ work.old }
+    {
+        res[n] = MARK;
+    }
+
+    fn regain_front(&self, n: usize, reach: usize, work: &mut [u8], res: &mut [u8]) -> Option<usize>
+        requires long { marking.message_length n ≡ Some reach }
+        requires aside { n ≤ length work.old }
+        requires front { n ≤ length res.old }
+        requires room { reach ≤ length res.old }
+        ensures regained { Regains marking (take n res.old) result (take reach res.new) }
+        ensures work { work.new ≡ work.old }
+    {
+        first_wrong(&res[0..n])
     }
 }

@@ -2,7 +2,7 @@
 use Rattle.std.proofs.Common.{◌≡◌, ℕ, ◌+◌, ◌-◌, ◌*◌, ◌/◌, ◌%◌, ◌<◌, ◌≤◌, true, ◌⊎◌, List, ◌++◌, length, get_or, take, drop, set, Some, None, sym, ap, ◌∙◌, subst, inl, inr, arith, below_more}
 use borrow.Rule.Slice.PartMut.{put_mid, post_of}
 use Rattle.std.proofs.lemmas.Nat.{div-mul-add, mod-mul-add, div_below, mul-le}
-use Rattle.std.proofs.lemmas.List.{length-append, length-drop, length-take-le, get_or-take, get_or-drop, get_or_append_left, get_or-append_right, get_or-set_same, get_or-set_other, drop-drop, drop_at}
+use Rattle.std.proofs.lemmas.List.{length-append, length-drop, length-take-le, get_or-take, get_or-drop, get_or_append_left, get_or-append_right, get_or-set_same, get_or-set_other, take-append-drop, drop-drop, drop_at}
 use Rattle.std.proofs.lemmas.Bool.{cases_lt}
 use Rattle.stage.specs.Agreement.{Regains}
 use Rattle.stage.specs.Plain.{within}
@@ -16,6 +16,16 @@ use Rattle.phases.specs.MapLaws.{increments_length, increments_at, bits_length, 
 pub record Group (b : ℕ) (count : ℕ) (xs : List ℕ) (group : List ℕ) (after : List ℕ) : Type 0 where
   pub long : length group ≡ b
   pub parts : drop (count * b) xs ≡ group ++ after
+
+-- a group of whole increments, as the part of the list that it is
+pub group_there : (b count size k : ℕ) (xs : List ℕ) → size ≡ b → Whole b (length xs) k → count < k
+    → Group b count xs (take size (drop (count * b) xs)) (drop size (drop (count * b) xs))
+group_there b count size k xs e w l =
+    let whole : k * b ≡ length xs = ap (λ m. m * b) (sym w.count) ∙ whole_bits b (length xs) w.rest in
+    record {
+      long = length-take-le size (drop (count * b) xs) (omega (arith, bits_inside b count k l, length-drop (count * b) xs)) ∙ e;
+      parts = sym (take-append-drop size (drop (count * b) xs));
+    }
 
 pub group_after : (b count : ℕ) (xs group after : List ℕ) → Group b count xs group after → after ≡ drop ((count + 1) * b) xs
 group_after b count xs group after g =
@@ -67,6 +77,13 @@ map_more b xs coded group after i count next w value known whole g ei en e v f =
     count
     (λ k h. get_or-set_other coded count k value 0 (omega arith) ∙ f k h)
     (get_or-set_same coded count value 0 inside ∙ v ∙ ap (increment_of b) (e ∙ group_written b count xs group after g))))
+
+-- as many as there are increments are the coding
+pub mapped_all : (b : ℕ) (xs coded : List ℕ) (count : ℕ) → Whole b (length xs) (length coded) → length coded ≤ count
+    → Mapping b xs coded count → coded ≡ increments b xs
+mapped_all b xs coded count whole all f =
+    let same = whole.count in
+    same_by_places coded (increments b xs) (omega (arith, increments_length b xs)) (λ k h. f k (omega arith) ∙ sym (increments_at b xs k (omega arith)))
 
 -- where no group is left, the increments of all bits are the coding
 pub mapped : (b : ℕ) (xs coded : List ℕ) (count : ℕ) → is_width b ≡ true → Whole b (length xs) (length coded) → length (drop (count * b) xs) < b

@@ -1,8 +1,8 @@
 //! The stage that adds each phase increment to the cell put out a row earlier.
 
-ghost use Rattle.std.specs.Prelude.{◌≡◌, ◌+◌, ◌%◌, ◌<◌, true, length, take, Some, None, nat_le};
+ghost use Rattle.std.specs.Prelude.{◌≡◌, ◌+◌, ◌%◌, ◌<◌, ◌≤◌, true, length, take, Some, None, nat_le};
 ghost use Rattle.std.specs.Result.{result_map_both};
-ghost use Rattle.stage.specs.Model.{plain};
+ghost use Rattle.stage.specs.Model.{plain, legal};
 ghost use Rattle.phases.specs.Differences.{row_length, is_reference, made_difference, earlier, turn_between, whole_rows, difference, Recurrence};
 ghost use Rattle.phases.specs.DifferenceLaws.{difference_sound};
 
@@ -169,6 +169,21 @@ impl PlainStage for Difference {
             list[i] = turn(*cell, cell_before(i, reference, received));
         }
         None
+    }
+
+    fn code_front(&self, n: usize, reach: usize, work: &mut [u8], res: &mut [u8])
+        requires list { legal (plain (difference (take self.now.count self.now.row))) (take n res.old) ≡ true }
+        requires long { (difference (take self.now.count self.now.row)).coded_length n ≡ Some reach }
+        requires aside { n ≤ length work.old }
+        requires front { n ≤ length res.old }
+        requires room { reach ≤ length res.old }
+        ensures coded { take reach res.new ≡ (difference (take self.now.count self.now.row)).coding (take n res.old) }
+        ensures work { work.new ≡ work.old }
+    {
+        let reference = self.reference();
+        for i in 0..reach {
+            res[i] = sum(res[i], cell_before(i, reference, res));
+        }
     }
 
     ghost sound = { λ s. difference_sound (take s.count s.row) s.legal };

@@ -1,8 +1,8 @@
 //! The stage that maps bits to phase increments.
 
-ghost use Rattle.std.specs.Prelude.{◌≡◌, ◌*◌, ◌^◌, ◌<◌, true, length, Some, None, slice_index};
+ghost use Rattle.std.specs.Prelude.{◌≡◌, ◌*◌, ◌^◌, ◌<◌, ◌≤◌, true, length, take, Some, None, slice_index};
 ghost use Rattle.std.specs.Result.{result_map_both};
-ghost use Rattle.stage.specs.Model.{plain};
+ghost use Rattle.stage.specs.Model.{plain, legal};
 ghost use Rattle.stage.specs.Plain.{within};
 ghost use Rattle.phases.specs.Maps.{is_width, made_map, phase_table, number_table, GrayMaps, written, mapping, Written};
 ghost use Rattle.phases.specs.MapLaws.{mapping_sound};
@@ -94,11 +94,11 @@ impl Map {
         ensures value { result ≡ written group.now 0 self.now.bits }
         ensures short { result < 2 ^ self.now.bits }
     {
-        let mut number = 0;
-        for bit in group {
-            number = 2 * number + *bit;
+        match self.bits {
+            1 => group[0],
+            2 => 2 * group[0] + group[1],
+            _ => 4 * group[0] + 2 * group[1] + group[2],
         }
-        number
     }
 
     /// Writes the bits of one increment that write `number`.
@@ -145,8 +145,9 @@ impl PlainStage for Map {
 
     fn write_coding(&self, list: &[u8], coded: &mut [u8]) {
         let (increments, _) = self.tables();
-        for (i, group) in list.chunks_exact(self.bits).enumerate() {
-            coded[i] = increments[self.number_written(group) as usize];
+        for (i, increment) in coded.iter_mut().enumerate() {
+            let group = &list[i * self.bits..(i + 1) * self.bits];
+            *increment = increments[self.number_written(group) as usize];
         }
     }
 
@@ -161,6 +162,22 @@ impl PlainStage for Map {
             self.write_bits(number, &mut list[i * self.bits..(i + 1) * self.bits]);
         }
         None
+    }
+
+    fn code_front(&self, n: usize, reach: usize, work: &mut [u8], res: &mut [u8])
+        requires list { legal (plain (mapping self.now.bits)) (take n res.old) ≡ true }
+        requires long { (mapping self.now.bits).coded_length n ≡ Some reach }
+        requires aside { n ≤ length work.old }
+        requires front { n ≤ length res.old }
+        requires room { reach ≤ length res.old }
+        ensures coded { take reach res.new ≡ (mapping self.now.bits).coding (take n res.old) }
+        ensures work { work.new ≡ work.old }
+    {
+        let (increments, _) = self.tables();
+        for i in 0..reach {
+            let group = &res[i * self.bits..(i + 1) * self.bits];
+            res[i] = increments[self.number_written(group) as usize];
+        }
     }
 
     ghost sound = { λ s. mapping_sound s.bits s.width };

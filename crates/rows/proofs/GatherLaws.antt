@@ -79,6 +79,19 @@ gathering_keeps tm cells buffer i count next filled after h e en ea g =
           ∙ ap (λ q. laid_over q buffer) (sym m);
     }
 
+-- One more cell is looked at: a live one goes behind those gathered, and a silent one changes nothing.
+pub gathering_turn : (tm : ℕ) (cells buffer : List ℕ) (i count next : ℕ) (filled after : List ℕ) → i < length cells → next ≡ count + cond (live_cell tm i) 1 0 → after ≡ cond (live_cell tm i) (set filled count (get_or cells i 0)) filled
+    → Gathering tm cells buffer i count filled → Gathering tm cells buffer (i + 1) next after
+gathering_turn tm cells buffer i count next filled after h en ea g = of (live_cell tm i) refl
+  where
+    of : (b : Bool) → live_cell tm i ≡ b → Gathering tm cells buffer (i + 1) next after
+    of true e =
+        let n : next ≡ count + 1 = en ∙ ap (λ b. count + cond b 1 0) e in
+        gathering_keeps tm cells buffer i count next filled after h (sym e) n (ea ∙ ap (λ b. cond b (set filled count (get_or cells i 0)) filled) e) g
+    of false e =
+        let n : next ≡ count = en ∙ ap (λ b. count + cond b 1 0) e ∙ add-zero count in
+        gathering_skips tm cells buffer i count next filled after h (sym e) n (ea ∙ ap (λ b. cond b (set filled count (get_or cells i 0)) filled) e) g
+
 kept_few : (keeps : ℕ → Bool) (p : ℕ) (xs : List ℕ) → length (kept_from keeps p xs) ≤ length xs
 kept_few keeps p [] = omega arith
 kept_few keeps p (x ∷ xs) = of (keeps p) (kept_few keeps (p + 1) xs)
@@ -144,6 +157,15 @@ spreading_skips tm given rest left i cell cells h e ec er s =
       left = er ∙ s.left ∙ ap (λ q. drop q given) (z ∙ ap (λ b. n + cond b 1 0) e ∙ sym (count_more (live_cell tm) i));
       done = λ k l. ap (λ q. get_or (set cells i q) k 0) c ∙ fill_by_more (spread_cell tm given) cells i 0 h s.done k l;
     }
+
+-- One more cell is set: to the next of the given ones on a live carrier, and else to silence.
+pub spreading_turn : (tm : ℕ) (given rest left : List ℕ) (i cell : ℕ) (cells : List ℕ) → i < length cells → cell ≡ cond (live_cell tm i) (get_or rest 0 0) 8 → left ≡ cond (live_cell tm i) (drop 1 rest) rest
+    → Spreading tm given rest i cells → Spreading tm given left (i + 1) (set cells i cell)
+spreading_turn tm given rest left i cell cells h ec er s = of (live_cell tm i) refl
+  where
+    of : (b : Bool) → live_cell tm i ≡ b → Spreading tm given left (i + 1) (set cells i cell)
+    of true e = spreading_takes tm given rest left i cell cells h (sym e) (ec ∙ ap (λ b. cond b (get_or rest 0 0) 8) e) (er ∙ ap (λ b. cond b (drop 1 rest) rest) e) s
+    of false e = spreading_skips tm given rest left i cell cells h (sym e) (ec ∙ ap (λ b. cond b (get_or rest 0 0) 8) e) (er ∙ ap (λ b. cond b (drop 1 rest) rest) e) s
 
 pub spreading_all : (tm : ℕ) (given rest : List ℕ) (i n : ℕ) (cells : List ℕ) → length cells ≡ n → n ≤ i → Spreading tm given rest i cells → cells ≡ spread tm n given
 unfolding spread

@@ -1,12 +1,15 @@
 //! Carriers of a row: which are live, and how high their cells may be.
-ghost use Rattle.std.specs.Prelude.{◌≡◌, ℕ, ◌%◌};
-ghost use Rattle.rows.specs.Carriers.{carriers, highest_on, is_reference, live_cell, row_fits};
+ghost use Rattle.std.specs.Prelude.{◌≡◌, ℕ, ◌*◌, ◌%◌};
+ghost use Rattle.rows.specs.Carriers.{band_carriers, highest_on, is_reference, live_cell, row_fits};
 
 use frame::BAND_CARRIERS;
 use stage::buffers::all_within;
 
 /// The carriers of a row.
 pub const CARRIERS: usize = 36;
+
+/// The sub-bands of a row.
+const BANDS: usize = CARRIERS / BAND_CARRIERS;
 
 /// The highest phase of a cell, in eighths of a turn.
 pub const HIGHEST_PHASE: u8 = 7;
@@ -21,11 +24,11 @@ pub(crate) fn is_live(tm: u32, place: usize) -> bool
     (tm >> (place % CARRIERS / BAND_CARRIERS)) % 2 == 1
 }
 
-/// The highest number that the cell at a place of rows may be.
-fn highest_at(tm: u32, place: usize) -> u8
-    ensures { result ≡ highest_on tm (place % carriers) }
+/// The highest number that the cells of a sub-band of rows, one behind the other, may be.
+fn highest_in(tm: u32, band: usize) -> u8
+    ensures { result ≡ highest_on tm (band_carriers * (band % 6)) }
 {
-    if is_live(tm, place) {
+    if is_live(tm, BAND_CARRIERS * (band % BANDS)) {
         HIGHEST_PHASE
     } else {
         SILENCE
@@ -44,9 +47,10 @@ pub fn is_reference(row: &[u8]) -> bool
 pub fn row_fits(tm: u32, row: &[u8]) -> bool
     ensures { result ≡ row_fits tm row.now }
 {
+    let (bands, _) = row.as_chunks::<BAND_CARRIERS>();
     row.len() == CARRIERS
-        && row
+        && bands
             .iter()
             .enumerate()
-            .all(|(place, cell)| *cell <= highest_at(tm, place))
+            .all(|(band, cells)| all_within(cells, highest_in(tm, band)))
 }

@@ -1,6 +1,6 @@
 //! Plain stages: what their authors write, and how that makes a stage.
 
-ghost use Rattle.std.specs.Prelude.{◌≡◌, true, length, Some};
+ghost use Rattle.std.specs.Prelude.{◌≡◌, ◌≤◌, true, length, take, Some};
 ghost use Rattle.stage.specs.Model.{plain, legal};
 ghost use Rattle.stage.specs.Plain.{Plain};
 ghost use Rattle.stage.specs.Sound.{Sound};
@@ -53,6 +53,37 @@ pub trait PlainStage {
         requires { (meaning self.now).message_length (length received.now) ≡ Some (length list.old) }
         ensures { Regains (meaning self.now) received.now result list.new };
 
+    /// Writes the coding of the legal list of the first `n` elements of `res` over its first `reach`.
+    ///
+    /// The list is copied to `work`. A stage that can write over its own list does so instead, and
+    /// leaves `work` alone.
+    fn code_front(&self, n: usize, reach: usize, work: &mut [u8], res: &mut [u8])
+        requires list { legal (plain (meaning self.now)) (take n res.old) ≡ true }
+        requires long { (meaning self.now).coded_length n ≡ Some reach }
+        requires aside { n ≤ length work.old }
+        requires front { n ≤ length res.old }
+        requires room { reach ≤ length res.old }
+        ensures { take reach res.new ≡ (meaning self.now).coding (take n res.old) }
+    {
+        copy_front(n, res, work);
+        self.write_coding(&work[0..n], &mut res[0..reach]);
+    }
+
+    /// Takes the first `n` elements of `res` for the coding of a list of `reach` elements, and writes
+    /// that over the front, as `regain` does.
+    ///
+    /// The received list is copied to `work`, unless the stage can write over it.
+    fn regain_front(&self, n: usize, reach: usize, work: &mut [u8], res: &mut [u8]) -> Option<usize>
+        requires long { (meaning self.now).message_length n ≡ Some reach }
+        requires aside { n ≤ length work.old }
+        requires front { n ≤ length res.old }
+        requires room { reach ≤ length res.old }
+        ensures { Regains (meaning self.now) (take n res.old) result (take reach res.new) }
+    {
+        copy_front(n, res, work);
+        self.regain(&work[0..n], &mut res[0..reach])
+    }
+
     ghost sound: { (s : Self) → Sound (meaning s) };
 }
 
@@ -82,8 +113,7 @@ impl<P: PlainStage> Stage for P {
         let Some(length) = self.coded_length(n) else {
             unreachable()
         };
-        copy_front(n, res, work);
-        self.write_coding(&work[0..n], &mut res[0..length]);
+        self.code_front(n, length, work, res);
         length
     }
 
@@ -92,8 +122,7 @@ impl<P: PlainStage> Stage for P {
         let Some(length) = self.message_length(n) else {
             return Err(ChainFault::from(StageFault { number, place: 0 }));
         };
-        copy_front(n, res, work);
-        match self.regain(&work[0..n], &mut res[0..length]) {
+        match self.regain_front(n, length, work, res) {
             None => Ok(length),
             Some(place) => Err(ChainFault::from(StageFault { number, place })),
         }

@@ -6,7 +6,7 @@ use frame::LegalLength;
 use std::alloc::AllocError;
 
 /// Appends a column with this number at its right end.
-#[tactic(auto, using(crate::proofs::Holes::number_column))]
+#[tactic(auto, using(crate::specs::Holes::number_column))]
 pub fn push_number(line: &mut String, number: usize) -> Result<(), AllocError>
     ensures { OnOk result (string_bytes line.new ≡ with_number (string_bytes line.old) number) }
 {
@@ -14,7 +14,7 @@ pub fn push_number(line: &mut String, number: usize) -> Result<(), AllocError>
 }
 
 /// Appends two columns, a frame length and its payload, or a dash in each where there is none.
-#[tactic(auto, using(crate::proofs::Holes::number_columns, crate::proofs::Holes::dash_columns))]
+#[tactic(auto, using(crate::specs::Holes::number_columns, crate::specs::Holes::dash_columns))]
 pub fn push_length(line: &mut String, length: Option<LegalLength>) -> Result<(), AllocError>
     ensures { OnOk result (string_bytes line.new ≡ with_length (string_bytes line.old) length) }
 {

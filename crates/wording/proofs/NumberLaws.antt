@@ -4,6 +4,8 @@ use Rattle.std.proofs.lemmas.Bool.{and_parts, false≢true}
 use Rattle.std.proofs.lemmas.Str.{IsUtf8-from_ascii}
 use Rattle.std.proofs.lemmas.Str.Parse.{FoldsDigits, IsNumeralModel, numerals_by_fold, parse_plain, tells_all_ascii_digits}
 use Rattle.std.proofs.lemmas.Bool.Decides.{nat_tests}
+use Rattle.std.specs.Char.{is_ascii_digit}
+use Rattle.std.specs.List.{list_all}
 use Rattle.std.specs.Result.{result_ok}
 use Rattle.std.specs.Str.{IsUtf8, all_ascii_digits}
 use Rattle.std.specs.Str.Parse.{ParsesUnsigned}
@@ -39,10 +41,18 @@ ascii (c ∷ cs) h (suc i) = ascii cs (tells_all_ascii_digits.parts c cs h).1 i
 pub no_text : (w : List ℕ) → ¬ (IsUtf8 w) → number_of w ≡ None
 no_text w fails = no_number w (λ p. fails (IsUtf8-from_ascii w (ascii w p.0)))
 
--- a word that does not begin with a sign
-pub no_sign : (w : List ℕ) (r : Bool) → ((rest : List ℕ) → w ≡ (43 ∷ []) ++ rest → r ≡ true) → r ≡ false → get_or w 0 0 ≡ 43 → ⊥
-no_sign [] r f q h = omega arith
-no_sign (c ∷ cs) r f q h = false≢true (sym q ∙ f cs (ap (λ (x : ℕ). x ∷ cs) h))
+digits_tested : (w : List ℕ) → all_ascii_digits w ≡ list_all is_ascii_digit w
+digits_tested [] = refl
+digits_tested (c ∷ cs) = ap (λ b. is_ascii_digit c && b) (digits_tested cs)
+
+-- a word of digits does not begin with a sign
+pub digits_no_sign : (w : List ℕ) → list_all is_ascii_digit w ≡ true → get_or w 0 0 ≡ 43 → ⊥
+digits_no_sign [] d h = omega arith
+digits_no_sign (c ∷ cs) d h = omega (arith, (tells_all_ascii_digits.parts c cs (digits_tested (c ∷ cs) ∙ d)).0.0, h)
+
+-- a word with another byte is no number
+pub no_digits : (w : List ℕ) → list_all is_ascii_digit w ≡ false → number_of w ≡ None
+no_digits w f = no_number w (λ p. false≢true (sym f ∙ sym (digits_tested w) ∙ p.0))
 
 pub parsed : {E : Type 0} (w : List ℕ) (r : Result ℕ E) → ParsesUnsigned 32 10 w r → (get_or w 0 0 ≡ 43 → ⊥) → result_ok r ≡ number_of w
 parsed {E} w (Ok x) h plain =

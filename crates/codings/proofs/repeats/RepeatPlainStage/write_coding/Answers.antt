@@ -10,5 +10,5 @@ loop-i-preserved c =
     let whole = (grouped_is most_bits t _ _ c.requires.long).1 in
     let inside = group_inside c.loop-i.i _ t c.loop-i-test.true in
     let part = part_long c.loop-i.i t c.loop-i.coded (omega (arith, c.loop-i.auto.coded)) in
-    let group = c.fill.ensures.after (λ y h. h) ∙ ap (λ m. replicate m (get_or c.args.list.now c.loop-i.i 0)) part in
-    groups_more (replicate t) t (λ x. length-replicate t x) c.loop-i.i _ c.args.list.now c.loop-i.coded c.fill.new.self (omega arith) (omega (arith, c.loop-i.auto.coded)) group c.loop-i.invariant
+    let group = c.put_copies.ensures ∙ ap (λ m. replicate m (get_or c.args.list.now c.loop-i.i 0)) part in
+    groups_more (replicate t) t (λ x. length-replicate t x) c.loop-i.i _ c.args.list.now c.loop-i.coded c.put_copies.new.copies (omega arith) (omega (arith, c.loop-i.auto.coded)) group c.loop-i.invariant

@@ -1,44 +1,32 @@
-use Rattle.std.proofs.Common.{◌*◌, length, arith}
-use Rattle.std.proofs.lemmas.List.{length-set, length_push}
+use Rattle.std.proofs.Common.{◌+◌, refl, sym, arith}
+use Rattle.std.proofs.lemmas.List.{get_or_past}
 use Rattle.stage.specs.Model.{plain}
 use Rattle.stage.specs.Legality.{legal_within}
 use Rattle.stage.specs.Lists.{within_at}
 use Rattle.convolution.specs.Convolutions.{convolution}
 use Rattle.convolution.specs.NearestLaws.{convolved_is}
-use Rattle.convolution.proofs.CodingLaws.{in_hand, all_given, put_more, put_all}
+use Rattle.convolution.proofs.CodingLaws.{InHand, pair_more, put_all}
 use Rattle.convolution.proofs.convolutions.ConvolvePlainStage.write_coding.Goals as goal
 
-pub word_of-word-requires-clause-bit : goal.word_of-word-requires-clause-bit
-word_of-word-requires-clause-bit c =
-    let xs = c.args.list.now in
-    let w = legal_within (plain convolution) xs c.requires.list in
-    let h = in_hand xs _ _ _ c.loop-i.yielded _ _ c.in-Some.bit c.loop-i.invariant.message c.loop-i.yielded_by c.in-Some.is c.next.ensures.steps in
-    omega (arith, h.value, within_at 1 xs c.in-Some.i w)
-
-pub bounds-coded-i : goal.bounds-coded-i
-bounds-coded-i c =
-    let h = in_hand c.args.list.now _ _ _ c.loop-i.yielded _ _ c.in-Some.bit c.loop-i.invariant.message c.loop-i.yielded_by c.in-Some.is c.next.ensures.steps in
-    let long = convolved_is _ _ c.requires.long in
-    omega (arith, h.inside, long.1, c.loop-i.auto.coded)
-
-pub bounds-coded-i-in-loop-i : goal.bounds-coded-i-in-loop-i
-bounds-coded-i-in-loop-i c =
-    let h = in_hand c.args.list.now _ _ _ c.loop-i.yielded _ _ c.in-Some.bit c.loop-i.invariant.message c.loop-i.yielded_by c.in-Some.is c.next.ensures.steps in
-    let long = convolved_is _ _ c.requires.long in
-    omega (arith, h.inside, long.1, c.loop-i.auto.coded, length-set c.loop-i.coded (2 * c.in-Some.i) c.x_of.result)
+pub word_of-requires-clause-bit : goal.word_of-requires-clause-bit
+word_of-requires-clause-bit c =
+    within_at 1 c.args.list.now c.loop-i.i (legal_within (plain convolution) c.args.list.now c.requires.list)
 
 pub loop-i-preserved : goal.loop-i-preserved
 loop-i-preserved c =
     let xs = c.args.list.now in
-    let h = in_hand xs _ _ _ c.loop-i.yielded _ _ c.in-Some.bit c.loop-i.invariant.message c.loop-i.yielded_by c.in-Some.is c.next.ensures.steps in
     let long = convolved_is _ _ c.requires.long in
-    record {
-      message = c.loop-i.invariant.message;
-      put = put_more xs c.loop-i.coded c.in-Some.i c.loop-i.register c.in-Some.bit.now c.word_of-word.result c.x_of.result c.y_of.result (length c.loop-i.yielded) _ (legal_within (plain convolution) xs c.requires.list) (omega (arith, h.inside, long.1, c.loop-i.auto.coded)) h c.word_of-word.ensures c.x_of.ensures c.y_of.ensures (length_push c.loop-i.yielded _) c.loop-i.invariant.put;
-    }
+    let h : InHand xs c.loop-i.i c.loop-i.i _ = record { inside = omega arith; place = refl; value = refl } in
+    pair_more xs c.loop-i.coded _ c.loop-i.i c.loop-i.register _ _ _ (legal_within (plain convolution) xs c.requires.list) (omega (arith, h.inside, long.1, c.loop-i.auto.coded)) h c.word_of.ensures c.put_pair-register.ensures.register c.put_pair-register.ensures.pair c.loop-i.invariant
 
-pub returns : goal.returns
-returns c =
-    let given = all_given c.args.list.now _ _ _ c.loop-i.yielded _ c.loop-i.invariant.message c.loop-i.yielded_by c.in-None.is c.next.ensures.steps in
+pub loop-i-2-preserved : goal.loop-i-2-preserved
+loop-i-2-preserved c =
+    let xs = c.args.list.now in
+    let i = c.loop-i-2.i in
     let long = convolved_is _ _ c.requires.long in
-    put_all c.args.list.now c.loop-i.coded (length c.loop-i.yielded) c.loop-i.register (omega (arith, long.1, c.loop-i.auto.coded)) (omega arith) c.loop-i.invariant.put
+    let h : InHand xs i i 0 = record { inside = omega arith; place = refl; value = sym (get_or_past xs i 0 (omega arith)) } in
+    let put = pair_more xs c.loop-i-2.coded _ i c.loop-i-2.register _ 0 _ (legal_within (plain convolution) xs c.requires.list) (omega (arith, h.inside, long.1, c.loop-i-2.auto.coded)) h c.word_of-in-loop-i-2.ensures c.put_pair-register-in-loop-i-2.ensures.register c.put_pair-register-in-loop-i-2.ensures.pair c.loop-i-2.invariant.put in
+    record {
+      put = put;
+      whole = λ most. put_all xs c.put_pair-register-in-loop-i-2.new.coded (i + 1) _ (omega (arith, long.1, c.loop-i-2.auto.coded, c.put_pair-register-in-loop-i-2.auto.coded)) most put;
+    }

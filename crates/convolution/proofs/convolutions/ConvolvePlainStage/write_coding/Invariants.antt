@@ -1,10 +1,14 @@
-use Rattle.std.proofs.Common.{length}
-use Rattle.convolution.proofs.CodingLaws.{Message, Putting}
+use Rattle.std.proofs.Common.{◌≡◌, ◌+◌, ◌≤◌, length}
+use Rattle.convolution.specs.Convolutions.{tail, convolved}
+use Rattle.convolution.proofs.CodingLaws.{Putting}
 use Rattle.convolution.proofs.convolutions.ConvolvePlainStage.write_coding.Given as goal
 
 abbrev pub invariant-loop-i : goal.invariant-loop-i
-invariant-loop-i l =
+invariant-loop-i l = Putting l.list l.coded l.i l.register
+
+abbrev pub invariant-loop-i-2 : goal.invariant-loop-i-2
+invariant-loop-i-2 l =
     record {
-      message : Message l.list l.initial.i-iterator;
-      put : Putting l.list l.coded (length l.yielded) l.register;
+      put : Putting l.list l.coded l.i l.register;
+      whole : length l.list + tail ≤ l.i → l.coded ≡ convolved l.list;
     }

@@ -1,35 +1,34 @@
-use Rattle.std.proofs.Common.{◌*◌, Some, length, drop, get_or, sym, ap, ◌∙◌, arith}
+use Rattle.std.proofs.Common.{◌+◌, ◌-◌, ◌*◌, Some, length, get_or, refl, sym, ap, ◌∙◌, arith}
 use Rattle.stage.specs.Model.{plain}
 use Rattle.stage.specs.Legality.{legal_within}
 use Rattle.phases.specs.Maps.{mapping}
 use Rattle.phases.specs.MapLengths.{mapped_is}
-use Rattle.phases.proofs.MapLoops.{Group, group_after, group_bits, map_more, mapped}
+use Rattle.phases.proofs.MapLoops.{group_there, group_bits, map_more, mapped_all}
 use Rattle.phases.proofs.maps.MapPlainStage.write_coding.Goals as goal
 
 pub number_written-requires-clause-digits : goal.number_written-requires-clause-digits
 number_written-requires-clause-digits c =
-    let steps = c.in-Some.ensures.steps in
-    let g : Group c.args.self.now.bits c.loop-i.i-iterator.count c.args.list.now c.in-Some.group.now c.next.new.self.iter.rest.now =
-    record { long = steps.0.1.1 ∙ c.loop-i.invariant.size; parts = sym c.loop-i.invariant.rest ∙ steps.0.1.0 } in
-    group_bits _ _ _ _ _ g (legal_within (plain (mapping c.args.self.now.bits)) c.args.list.now c.requires.list)
+    let b = c.args.self.now.bits in
+    let i = c.loop-i.i in
+    let xs = c.args.list.now in
+    let k = length c.args.coded.now in
+    let group = group_there b i ((i + 1) * b - i * b) k xs (omega arith) (mapped_is b (length xs) k c.requires.long) c.loop-i-test.true in
+    group_bits _ _ _ _ _ group (legal_within (plain (mapping b)) xs c.requires.list)
 
 pub loop-i-preserved : goal.loop-i-preserved
 loop-i-preserved c =
     let b = c.args.self.now.bits in
-    let steps = c.in-Some.ensures.steps in
-    let g : Group b c.loop-i.i-iterator.count c.args.list.now c.in-Some.group.now c.next.new.self.iter.rest.now =
-    record { long = steps.0.1.1 ∙ c.loop-i.invariant.size; parts = sym c.loop-i.invariant.rest ∙ steps.0.1.0 } in
-    let whole = mapped_is b (length c.args.list.now) (length c.loop-i.coded) (c.requires.long ∙ ap Some (sym c.loop-i.auto.coded)) in
-    record {
-      size = steps.0.0 ∙ c.loop-i.invariant.size;
-      rest = group_after _ _ _ _ _ g ∙ ap (λ k. drop (k * b) c.args.list.now) (sym steps.2);
-      mapped = map_more b c.args.list.now c.loop-i.coded _ _ _ _ _ c.number_written.result _ c.args.self.now.width whole g steps.1 steps.2 c.number_written.ensures.value (ap (λ t. get_or t c.number_written.result 0) c.tables.ensures.increments) c.loop-i.invariant.mapped;
-    }
+    let i = c.loop-i.i in
+    let xs = c.args.list.now in
+    let k = length c.args.coded.now in
+    let w = c.number_written.result in
+    let group = group_there b i ((i + 1) * b - i * b) k xs (omega arith) (mapped_is b (length xs) k c.requires.long) c.loop-i-test.true in
+    let whole = mapped_is b (length xs) (length c.loop-i.coded) (c.requires.long ∙ ap Some (sym c.loop-i.auto.coded)) in
+    map_more b xs c.loop-i.coded _ _ _ i _ w _ c.args.self.now.width whole group refl refl c.number_written.ensures.value (ap (λ t. get_or t w 0) c.tables.ensures.increments) c.loop-i.invariant
 
 pub returns : goal.returns
 returns c =
     let b = c.args.self.now.bits in
-    let whole = mapped_is b (length c.args.list.now) (length c.loop-i.coded) (c.requires.long ∙ ap Some (sym c.loop-i.auto.coded)) in
-    mapped b c.args.list.now c.loop-i.coded c.loop-i.i-iterator.count c.args.self.now.width whole
-    (omega (arith, c.in-None.ensures.steps.0.1.0, ap length c.loop-i.invariant.rest, c.loop-i.invariant.size))
-    c.loop-i.invariant.mapped
+    let xs = c.args.list.now in
+    let whole = mapped_is b (length xs) (length c.loop-i.coded) (c.requires.long ∙ ap Some (sym c.loop-i.auto.coded)) in
+    mapped_all b xs c.loop-i.coded c.loop-i.i whole (omega (arith, c.loop-i-test.false, c.loop-i.auto.coded)) c.loop-i.invariant
